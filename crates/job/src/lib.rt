@@ -1,0 +1,1 @@
+// The job: reading its bytes.
