@@ -26,9 +26,9 @@ pub fn joined(value: usize, count: usize, part: usize) -> usize
     (value << count) + part
 }
 
-// Puts the lowest `count` bits of a number, all in one byte.
+// Puts the lowest `count` bits of a number, at least one and all in one byte.
 pub fn put_part(buf: &mut [u8], at: usize, count: usize, value: usize)
-    requires { ⌜ at % 8 + count ≤ 8 ⌝ }
+    requires { ⌜ (0 < count) × (at % 8 + count ≤ 8) ⌝ }
     ensures { λ _. ⌜ now (buf .exit) ≡ putBits (now (buf .entry)) at (fieldBits count value) ⌝ }
 {
     let index = at / 8;

@@ -1,0 +1,64 @@
+-- Reading and packing a job undo each other: bytes are read as a good job exactly where they are that job's packed bytes and it
+-- keeps the rules.
+--     two-way      the law
+--     job-bits     the bits of a good job's bytes are its groups, then fewer than eight zero bits
+--     netAt        the bit at which a net begins
+--     net-at       a net's bits stand there
+use Prim.Native.Nat.{ℕ, _+_, _*_, _<_}
+use mathlib.Core.Path.{_≡_, refl}
+use mathlib.Core.Logic.{_↔_}
+use mathlib.Core.List.{List, [], _∷_, _++_, append-assoc}
+use lib.ListN.{length, take, drop, replicate}
+use lib.Seq.{take-append-seam}
+use Rattle.bits.specs.Bits.{bitsOf, AllBelow}
+use Rattle.bits.proofs.Laws.{bitsOf-bits}
+use Rattle.job.specs.Job.{Net, Job}
+use Rattle.job.specs.Reading.{good, netsWidth, readJob}
+use Rattle.job.specs.Packing.{concatBits, netBits, jobBits, packJob}
+use Rattle.job.specs.Good.{GoodJob}
+use Rattle.job.proofs.Tests.{tests}
+use Rattle.job.proofs.Binds.{steps}
+use Rattle.job.proofs.Placed.{Placed, placed-append}
+use Rattle.job.proofs.Widths.{nets-bits, job-small}
+use Rattle.job.proofs.Filled.{job-below, filled-tail, filled-packed}
+use Rattle.job.proofs.Jobs.{job-placed, bits-read}
+
+-- bytes are read as a good job exactly where they are that job's packed bytes and it keeps the rules
+pub two-way : (b : List ℕ) (j : Job) → AllBelow 256 b → (readJob b ≡ good j) ↔ ((b ≡ packJob j) × GoodJob j)
+unfolding readJob packJob
+two-way b j bytes =
+    simp (steps, tests, bits-read (bitsOf b) (bitsOf-bits b), filled-packed b (jobBits j) bytes (job-below j))
+    (λ (n, h). h, λ h. (rw (h .0) (job-small j (h .1)), h))
+
+-- the bits of a good job's bytes are its groups, then fewer than eight zero bits
+pub job-bits : (b : List ℕ) (j : Job) → AllBelow 256 b → readJob b ≡ good j → (k : ℕ) × (k < 8) × (bitsOf b ≡ jobBits j ++ replicate k 0)
+unfolding readJob
+job-bits b j bytes e = let h = simp (steps, bits-read (bitsOf b) (bitsOf-bits b)) at e in h .1 .0
+
+-- the bit at which a net begins: after the head, the layer lines, the obstacles and the nets before it
+unfoldable pub netAt : Job → (i : ℕ) → ℕ
+netAt j i = 80 + 40 * j .grid .layers + 27 * length (j .obstacles) + netsWidth (take i (j .nets))
+
+-- the bits of two lists of groups
+concat-append : {A : Type 0} (bits : A → List ℕ) (xs ys : List A) → concatBits bits (xs ++ ys) ≡ concatBits bits xs ++ concatBits bits ys
+unfolding concatBits
+concat-append bits [] ys = refl
+concat-append bits (x ∷ xs) ys = rw (concat-append bits xs ys, append-assoc)
+
+-- where nets stand, each stands behind those before it
+one-placed : (B : List ℕ) (at : ℕ) (before : List Net) (net : Net) (after : List Net)
+    → Placed B at (concatBits netBits (before ++ (net ∷ after))) → Placed B (at + netsWidth before) (netBits net)
+unfolding concatBits
+one-placed B at before net after p = (simp (concat-append netBits before (net ∷ after), placed-append, nets-bits) at p) .1 .0
+
+-- a net's bits stand there
+pub net-at : (b : List ℕ) (j : Job) → AllBelow 256 b → readJob b ≡ good j → (before : List Net) (net : Net) (after : List Net)
+    → j .nets ≡ before ++ (net ∷ after)
+    → (rest : List ℕ) × (drop (netAt j (length before)) (bitsOf b) ≡ netBits net ++ rest)
+unfolding Placed netAt
+net-at b j bytes e before net after same =
+    let lines = two-way b j bytes .0 e .1 .lines in
+    let parts = job-placed (bitsOf b) j .0 (filled-tail (bitsOf b) (jobBits j) (bitsOf-bits b) .0 (job-bits b j bytes e) .0) in
+    let first : take (length before) (j .nets) ≡ before = rw (same, take-append-seam) in
+    let here = one-placed (bitsOf b) _ before net after (rw same at (parts .1 .1 .1)) in
+    (_, rw (lines, ← first) at here)
