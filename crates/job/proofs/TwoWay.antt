@@ -4,6 +4,15 @@
 --     job-bits     the bits of a good job's bytes are its groups, then fewer than eight zero bits
 --     netAt        the bit at which a net begins
 --     net-at       a net's bits stand there
+mod Places
+mod Many
+mod Widths
+mod Groups
+mod Heads
+mod Pins
+mod Nets
+mod Filled
+mod Jobs
 use Prim.Native.Nat.{ℕ, _+_, _*_, _<_}
 use mathlib.Core.Path.{_≡_, refl}
 use mathlib.Core.Logic.{_↔_}
@@ -18,10 +27,10 @@ use Rattle.job.specs.Packing.{concatBits, netBits, jobBits, packJob}
 use Rattle.job.specs.Good.{GoodJob}
 use Rattle.job.proofs.Tests.{tests}
 use Rattle.job.proofs.Binds.{steps}
-use Rattle.job.proofs.Placed.{Placed, placed-append}
-use Rattle.job.proofs.Widths.{nets-bits, job-small}
-use Rattle.job.proofs.Filled.{job-below, filled-tail, filled-packed}
-use Rattle.job.proofs.Jobs.{job-placed, bits-read}
+use Rattle.job.proofs.TwoWay.Places.{Placed, placed-append}
+use Rattle.job.proofs.TwoWay.Widths.{nets-bits, job-small}
+use Rattle.job.proofs.TwoWay.Filled.{job-below, filled-tail, filled-packed}
+use Rattle.job.proofs.TwoWay.Jobs.{job-placed, bits-read}
 
 -- bytes are read as a good job exactly where they are that job's packed bytes and it keeps the rules
 pub two-way : (b : List ℕ) (j : Job) → AllBelow 256 b → (readJob b ≡ good j) ↔ ((b ≡ packJob j) × GoodJob j)

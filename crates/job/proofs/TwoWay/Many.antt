@@ -12,7 +12,7 @@ use lib.ListN.{length}
 use Rattle.job.specs.Reading.{Read, good, _>>=_, readMany}
 use Rattle.job.specs.Packing.{concatBits}
 use Rattle.job.proofs.Binds.{bind-good}
-use Rattle.job.proofs.Placed.{Placed, placed-nil, placed-append}
+use Rattle.job.proofs.TwoWay.Places.{Placed, placed-nil, placed-append}
 
 pub record Run (B : List ℕ) (S A : Type 0) : Type 1 where
   -- one group: its bits, how many, its rules in a state and with so many groups after it, and the state behind it

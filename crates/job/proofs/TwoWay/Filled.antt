@@ -15,7 +15,7 @@ use Rattle.bits.specs.Bits.{number, bitsOf, packBits, AllBelow}
 use Rattle.job.specs.Job.{Net, Job}
 use Rattle.job.specs.Packing.{groupBits, concatBits, headBits, layerBits, vertexBits, obstacleBits, boxBits, netBits, jobBits}
 use Rattle.bits.proofs.Laws.{fieldBits-bits, below-append, below-drop, number-zero, bitsOf-packBits, packBits-only}
-use Rattle.job.proofs.Placed.{Placed, placed}
+use Rattle.job.proofs.TwoWay.Places.{Placed, placed}
 
 -- no bits
 none-below : AllBelow 2 []

@@ -15,7 +15,7 @@ use Rattle.job.specs.Packing.{groupBits}
 use Rattle.job.specs.Good.{GoodGrid}
 use Rattle.job.proofs.Tests.{tests}
 use Rattle.job.proofs.Binds.{steps}
-use Rattle.job.proofs.Placed.{Placed, Fits, FieldsAt, widths, group-placed}
+use Rattle.job.proofs.TwoWay.Places.{Placed, Fits, FieldsAt, widths, group-placed}
 
 -- the head's fields, in order
 abbrev pub headFields : Head → List (ℕ × ℕ)

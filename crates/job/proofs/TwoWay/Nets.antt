@@ -19,11 +19,11 @@ use Rattle.job.specs.Packing.{groupBits, concatBits, vertexBits, boxBits
 use Rattle.job.specs.Good.{GoodGrid, GoodPin, GoodNet, allPins}
 use Rattle.job.proofs.Tests.{tests, crosswise}
 use Rattle.job.proofs.Binds.{steps}
-use Rattle.job.proofs.Placed.{Placed, Fits, FieldsAt, widths, placed-append, group-placed}
-use Rattle.job.proofs.Widths.{vertex-bits, concat-bits, net-head-bits, net-bits}
-use Rattle.job.proofs.Groups.{inside-fits, vertex-placed, boxes-read}
-use Rattle.job.proofs.Many.{Run, many-read}
-use Rattle.job.proofs.Pins.{New, new-nil, new-cons, new-append}
+use Rattle.job.proofs.TwoWay.Places.{Placed, Fits, FieldsAt, widths, placed-append, group-placed}
+use Rattle.job.proofs.TwoWay.Widths.{vertex-bits, concat-bits, net-head-bits, net-bits}
+use Rattle.job.proofs.TwoWay.Groups.{inside-fits, vertex-placed, boxes-read}
+use Rattle.job.proofs.TwoWay.Many.{Run, many-read}
+use Rattle.job.proofs.TwoWay.Pins.{New, new-nil, new-cons, new-append}
 
 -- the fields of a net's head
 abbrev netFields : Net → List (ℕ × ℕ)

@@ -18,13 +18,13 @@ use Rattle.job.specs.Packing.{groupBits, concatBits, headBits, layerBits
 use Rattle.job.specs.Good.{GoodJob}
 use Rattle.job.proofs.Tests.{tests}
 use Rattle.job.proofs.Binds.{bind-good, steps}
-use Rattle.job.proofs.Placed.{Placed, placed-append}
-use Rattle.job.proofs.Widths.{layer-bits, obstacle-bits, head-bits, concat-bits, job-width}
-use Rattle.job.proofs.Groups.{lines-read, obstacles-read}
-use Rattle.job.proofs.Heads.{GoodHead, headFields, head-read}
-use Rattle.job.proofs.Pins.{new-all}
-use Rattle.job.proofs.Nets.{nets-read}
-use Rattle.job.proofs.Filled.{Filled, filled-tail}
+use Rattle.job.proofs.TwoWay.Places.{Placed, placed-append}
+use Rattle.job.proofs.TwoWay.Widths.{layer-bits, obstacle-bits, head-bits, concat-bits, job-width}
+use Rattle.job.proofs.TwoWay.Groups.{lines-read, obstacles-read}
+use Rattle.job.proofs.TwoWay.Heads.{GoodHead, headFields, head-read}
+use Rattle.job.proofs.TwoWay.Pins.{new-all}
+use Rattle.job.proofs.TwoWay.Nets.{nets-read}
+use Rattle.job.proofs.TwoWay.Filled.{Filled, filled-tail}
 
 -- the head of a job
 abbrev headOf : Job → Head

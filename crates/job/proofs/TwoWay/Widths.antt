@@ -17,7 +17,7 @@ use Rattle.job.specs.Reading.{netWidth, netsWidth}
 use Rattle.job.specs.Packing.{groupBits, concatBits, headBits, layerBits, vertexBits, obstacleBits, boxBits, netBits, jobBits, packJob}
 use Rattle.job.specs.Good.{GoodNet, GoodJob}
 use Rattle.bits.proofs.Laws.{length-fieldBits, length-packBits}
-use Rattle.job.proofs.Placed.{widths, length-groupBits}
+use Rattle.job.proofs.TwoWay.Places.{widths, length-groupBits}
 
 -- a layer line takes 40 bits
 pub layer-bits : (l : Layer) → length (layerBits l) ≡ 40

@@ -22,9 +22,9 @@ use Rattle.job.specs.Packing.{groupBits, concatBits, layerBits, vertexBi
 use Rattle.job.specs.Good.{GoodGrid, GoodLayer, GoodLines, GoodObstacle}
 use Rattle.job.proofs.Tests.{and-holds, tests}
 use Rattle.job.proofs.Binds.{steps}
-use Rattle.job.proofs.Widths.{layer-bits, obstacle-bits, box-bits}
-use Rattle.job.proofs.Many.{groups-read}
-use Rattle.job.proofs.Placed.{Placed, Fits, FieldsAt, widths, group-placed}
+use Rattle.job.proofs.TwoWay.Widths.{layer-bits, obstacle-bits, box-bits}
+use Rattle.job.proofs.TwoWay.Many.{groups-read}
+use Rattle.job.proofs.TwoWay.Places.{Placed, Fits, FieldsAt, widths, group-placed}
 
 -- the fields of a layer line
 abbrev layerFields : Layer → List (ℕ × ℕ)
