@@ -26,7 +26,7 @@ pub struct Taken {
 impl Cursor {
     // Whether the bytes hold `width` bits more.
     pub fn whole(self, s: &[u8], width: usize) -> bool
-        requires { ⌜ Fitting (self .at) width ⌝ }
+        requires { ⌜ self .at + width < 2 ^ 63 ⌝ }
         ensures { λ r. ⌜ r ≡ whole (bitsOf (now (s .entry))) (self .at) width ⌝ }
     {
         (self.at + width + 7) / 8 <= s.len()

@@ -1,16 +1,17 @@
 -- Reading and packing a job undo each other: bytes are read as a good job exactly where they are that job's packed bytes and it
 -- keeps the rules.
 --     two-way      the law
+--     rules-hold   a job that was read keeps the rules
 --     job-bits     the bits of a good job's bytes are its groups, then fewer than eight zero bits
 --     netAt        the bit at which a net begins
 --     net-at       a net's bits stand there
-mod Places
+pub mod Places
 mod Many
-mod Widths
-mod Groups
-mod Heads
+pub mod Widths
+pub mod Groups
+pub mod Heads
 mod Pins
-mod Nets
+pub mod Nets
 mod Filled
 mod Jobs
 use Prim.Native.Nat.{ℕ, _+_, _*_, _<_}
@@ -22,7 +23,7 @@ use lib.Seq.{take-append-seam}
 use Rattle.bits.specs.Bits.{bitsOf, AllBelow}
 use Rattle.bits.proofs.Laws.{bitsOf-bits}
 use Rattle.job.specs.Job.{Net, Job}
-use Rattle.job.specs.Reading.{good, netsWidth, readJob}
+use Rattle.job.specs.Reading.{good, jobHead, obstaclesAt, netsAt, netsWidth, readJob}
 use Rattle.job.specs.Packing.{concatBits, netBits, jobBits, packJob}
 use Rattle.job.specs.Good.{GoodJob}
 use Rattle.job.proofs.Tests.{tests}
@@ -39,14 +40,19 @@ two-way b j bytes =
     simp (steps, tests, bits-read (bitsOf b) (bitsOf-bits b), filled-packed b (jobBits j) bytes (job-below j))
     (λ (n, h). h, λ h. (rw (h .0) (job-small j (h .1)), h))
 
--- the bits of a good job's bytes are its groups, then fewer than eight zero bits
-pub job-bits : (b : List ℕ) (j : Job) → AllBelow 256 b → readJob b ≡ good j → (k : ℕ) × (k < 8) × (bitsOf b ≡ jobBits j ++ replicate k 0)
+-- a job that was read keeps the rules
+pub rules-hold : (b : List ℕ) (j : Job) → readJob b ≡ good j → GoodJob j
 unfolding readJob
-job-bits b j bytes e = let h = simp (steps, bits-read (bitsOf b) (bitsOf-bits b)) at e in h .1 .0
+rules-hold b j e = let h = simp (steps, bits-read (bitsOf b) (bitsOf-bits b)) at e in h .1 .1
+
+-- the bits of a good job's bytes are its groups, then fewer than eight zero bits
+pub job-bits : (b : List ℕ) (j : Job) → readJob b ≡ good j → (k : ℕ) × (k < 8) × (bitsOf b ≡ jobBits j ++ replicate k 0)
+unfolding readJob
+job-bits b j e = let h = simp (steps, bits-read (bitsOf b) (bitsOf-bits b)) at e in h .1 .0
 
 -- the bit at which a net begins: after the head, the layer lines, the obstacles and the nets before it
 unfoldable pub netAt : Job → (i : ℕ) → ℕ
-netAt j i = 80 + 40 * j .grid .layers + 27 * length (j .obstacles) + netsWidth (take i (j .nets))
+netAt j i = netsAt (jobHead j) + netsWidth (take i (j .nets))
 
 -- the bits of two lists of groups
 concat-append : {A : Type 0} (bits : A → List ℕ) (xs ys : List A) → concatBits bits (xs ++ ys) ≡ concatBits bits xs ++ concatBits bits ys
@@ -61,13 +67,13 @@ unfolding concatBits
 one-placed B at before net after p = (simp (concat-append netBits before (net ∷ after), placed-append, nets-bits) at p) .1 .0
 
 -- a net's bits stand there
-pub net-at : (b : List ℕ) (j : Job) → AllBelow 256 b → readJob b ≡ good j → (before : List Net) (net : Net) (after : List Net)
+pub net-at : (b : List ℕ) (j : Job) → readJob b ≡ good j → (before : List Net) (net : Net) (after : List Net)
     → j .nets ≡ before ++ (net ∷ after)
     → (rest : List ℕ) × (drop (netAt j (length before)) (bitsOf b) ≡ netBits net ++ rest)
-unfolding Placed netAt
-net-at b j bytes e before net after same =
-    let lines = two-way b j bytes .0 e .1 .lines in
-    let parts = job-placed (bitsOf b) j .0 (filled-tail (bitsOf b) (jobBits j) (bitsOf-bits b) .0 (job-bits b j bytes e) .0) in
+unfolding Placed netAt netsAt obstaclesAt
+net-at b j e before net after same =
+    let lines = rules-hold b j e .lines in
+    let parts = job-placed (bitsOf b) j .0 (filled-tail (bitsOf b) (jobBits j) (bitsOf-bits b) .0 (job-bits b j e) .0) in
     let first : take (length before) (j .nets) ≡ before = rw (same, take-append-seam) in
     let here = one-placed (bitsOf b) _ before net after (rw same at (parts .1 .1 .1)) in
     (_, rw (lines, ← first) at here)

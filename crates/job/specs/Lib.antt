@@ -4,3 +4,6 @@ pub mod Job
 pub mod Reading
 pub mod Packing
 pub mod Good
+pub mod Structs
+pub mod Marks
+pub mod Loading

@@ -51,6 +51,17 @@ pub record Head : Type 0 where
   pub nets : ℕ
   pub obstacles : ℕ
 
+-- the head of a job
+abbrev pub jobHead : Job → Head
+jobHead j =
+    record {
+      grid = j .grid;
+      guide = j .guide;
+      short = j .short;
+      nets = length (j .nets);
+      obstacles = length (j .obstacles);
+    }
+
 -- "Head, 80 bits: edition 4 (is 1); direction 1; layers minus one 3; columns minus one 8; rows minus one 8; guide penalty 16;
 -- short penalty 16; nets 8; obstacles 16."
 unfoldable pub headAt : (bits : List ℕ) (at : ℕ) → Head
@@ -204,9 +215,9 @@ obstaclesAt head = 80 + 40 * head .grid .layers
 unfoldable pub netsAt : Head → ℕ
 netsAt head = obstaclesAt head + 27 * head .obstacles
 
-unfoldable pub readBits : (bits : List ℕ) → Read Job
-readBits bits = do
-  head ← readHead bits
+-- layer lines, obstacles, nets and tail
+unfoldable pub readAfterHead : (bits : List ℕ) → Head → Read Job
+readAfterHead bits head = do
   lines ← readMany 40 (readLayer bits) (head .grid .layers) 80
   obstacles ← readMany 27 (readObstacle bits (head .grid)) (head .obstacles) (obstaclesAt head)
   nets ← readNets bits (head .grid) obstacles [] (head .nets) (netsAt head)
@@ -219,6 +230,11 @@ readBits bits = do
     obstacles = obstacles;
     nets = nets;
   })
+
+unfoldable pub readBits : (bits : List ℕ) → Read Job
+readBits bits = do
+  head ← readHead bits
+  readAfterHead bits head
 
 -- "1, 0: job over 262,144 bytes"
 unfoldable pub readJob : (bytes : List ℕ) → Read Job

@@ -54,7 +54,7 @@ module _ (g : Grid) (small : GoodGrid g) where
   inside-fits v t = let h = simp tests at t in omega arith
 
   -- a good box fits its fields
-  box-fits : (b : Box) → T (goodBox g b) → Fits (boxFields b)
+  pub box-fits : (b : Box) → T (goodBox g b) → Fits (boxFields b)
   unfolding goodBox goodSpan
   box-fits b t = let h = simp tests at t in omega arith
 
@@ -122,7 +122,7 @@ module _ (B : List ℕ) (bits : AllBelow 2 B) where
       taken e = (cc, (cc, (cc, tt)))
 
   -- a box stands there and fits, where it is whole and is the one that is read
-  box-placed : (at : ℕ) (b : Box) → (Placed B at (boxBits b) × Fits (boxFields b)) ↔ (T (whole B at 38) × (boxAt B at ≡ b))
+  pub box-placed : (at : ℕ) (b : Box) → (Placed B at (boxBits b) × Fits (boxFields b)) ↔ (T (whole B at 38) × (boxAt B at ≡ b))
   unfolding boxBits boxAt widths
   box-placed at b = Iff·trans (group-placed B at bits (boxFields b) (lit< tt)) (Iff·and Iff·rfl (made, taken))
     where

@@ -1,6 +1,6 @@
 -- The whole job, from its bits: reading it gives a good job exactly where the job's bits stand first, zero bits fill the last byte,
 -- nothing follows, and the job keeps the rules.
---     headOf, jobOf, afterHead     the head of a job; a job from its head and the rest; what is read after the head
+--     jobHead, jobOf, readAfterHead     the head of a job; a job from its head and the rest; what is read after the head
 --     job-placed                   a job's bits stand first where each of its parts stands at its place
 --     after-good, good-after       the law for what is read after the head, one way and the other
 --     bits-read                    the law
@@ -12,7 +12,7 @@ use mathlib.Core.List.{List, []}
 use lib.ListN.{length}
 use Rattle.bits.specs.Bits.{AllBelow}
 use Rattle.job.specs.Job.{Layer, Obstacle, Net, Job}
-use Rattle.job.specs.Reading.{Read, Head, good, _>>=_, _>>_, readMany, readHead, readLayer, readObstacle, readNets, readTail, readBits}
+use Rattle.job.specs.Reading.{Head, good, jobHead, readHead, readTail, readAfterHead, readBits}
 use Rattle.job.specs.Reading.{obstaclesAt, netsAt, netsWidth}
 use Rattle.job.specs.Packing.{groupBits, concatBits, headBits, layerBits, obstacleBits, netBits, jobBits}
 use Rattle.job.specs.Good.{GoodJob}
@@ -25,10 +25,6 @@ use Rattle.job.proofs.TwoWay.Heads.{GoodHead, headFields, head-read}
 use Rattle.job.proofs.TwoWay.Pins.{new-all}
 use Rattle.job.proofs.TwoWay.Nets.{nets-read}
 use Rattle.job.proofs.TwoWay.Filled.{Filled, filled-tail}
-
--- the head of a job
-abbrev headOf : Job → Head
-headOf j = record { grid = j .grid; guide = j .guide; short = j .short; nets = length (j .nets); obstacles = length (j .obstacles) }
 
 -- a job's bits stand first where those of its head, its layer lines, its obstacles and its nets stand at their places
 pub job-placed : (B : List ℕ) (j : Job)
@@ -46,20 +42,11 @@ abbrev jobOf : Head → List Layer → List Obstacle → List Net → Job
 jobOf head lines obstacles nets =
     record { grid = head .grid; guide = head .guide; short = head .short; lines = lines; obstacles = obstacles; nets = nets }
 
--- what is read after the head
-afterHead : (B : List ℕ) → Head → Read Job
-afterHead B head = do
-  lines ← readMany 40 (readLayer B) (head .grid .layers) 80
-  obstacles ← readMany 27 (readObstacle B (head .grid)) (head .obstacles) (obstaclesAt head)
-  nets ← readNets B (head .grid) obstacles [] (head .nets) (netsAt head)
-  readTail B (netsAt head + netsWidth nets)
-  good (jobOf head lines obstacles nets)
-
 module _ (B : List ℕ) (bits : AllBelow 2 B) where
   -- what is read after a good head is good only where the job's bits stand there and it keeps the rules
-  after-good : (head : Head) (j : Job) → Placed B 0 (groupBits (headFields head)) → GoodHead head → afterHead B head ≡ good j
+  after-good : (head : Head) (j : Job) → Placed B 0 (groupBits (headFields head)) → GoodHead head → readAfterHead B head ≡ good j
       → Filled B (jobBits j) × GoodJob j
-  unfolding afterHead readTail obstaclesAt netsAt headBits
+  unfolding readAfterHead readTail obstaclesAt netsAt headBits
   after-good head j p h =
       simp (steps, tests, lines-read B bits, obstacles-read B bits (head .grid) (h .grid), nets-read B bits (head .grid) (h .grid), new-all)
       (λ (lines, (n, (q, good-lines)), (obstacles, (m, (r, good-obstacles)), (nets, (l, (s, (good-nets, new))), (tail, same)))).
@@ -82,8 +69,8 @@ module _ (B : List ℕ) (bits : AllBelow 2 B) where
       ))
 
   -- and it is good there
-  good-after : (j : Job) → Filled B (jobBits j) → GoodJob j → afterHead B (headOf j) ≡ good j
-  unfolding afterHead readTail obstaclesAt netsAt headBits
+  good-after : (j : Job) → Filled B (jobBits j) → GoodJob j → readAfterHead B (jobHead j) ≡ good j
+  unfolding readAfterHead readTail obstaclesAt netsAt headBits
   good-after j filled h =
       let p = filled-tail B (jobBits j) bits .0 filled in
       let q = job-placed B j .0 (p .0) in
@@ -99,21 +86,21 @@ module _ (B : List ℕ) (bits : AllBelow 2 B) where
       )
 
   -- a good job has a good head
-  head-of : (j : Job) → GoodJob j → GoodHead (headOf j)
+  head-of : (j : Job) → GoodJob j → GoodHead (jobHead j)
   head-of j h = record { grid = h .grid; guide = h .guide; short = h .short; nets = h .nets; obstacles = h .obstacles }
 
   -- bits are read as a job exactly where they are its groups, filled up with zero bits, and it keeps the rules
   pub bits-read : (j : Job) → (readBits B ≡ good j) ↔ (Filled B (jobBits j) × GoodJob j)
-  unfolding readBits afterHead headBits
+  unfolding readBits readAfterHead headBits
   bits-read j = (forth, back)
     where
       forth : readBits B ≡ good j → Filled B (jobBits j) × GoodJob j
       forth e =
-          let read = bind-good (readHead B) (afterHead B) j .0 e in
+          let read = bind-good (readHead B) (readAfterHead B) j .0 e in
           let p = head-read B bits (read .0) .0 (read .1) in
           after-good (read .0) j (p .0) (p .1) (read .2)
 
       back : Filled B (jobBits j) × GoodJob j → readBits B ≡ good j
       back (filled, h) =
           let p = job-placed B j .0 (filled-tail B (jobBits j) bits .0 filled .0) in
-          bind-good (readHead B) (afterHead B) j .1 (headOf j, head-read B bits (headOf j) .1 (p .0, head-of j h), good-after j filled h)
+          bind-good (readHead B) (readAfterHead B) j .1 (jobHead j, head-read B bits (jobHead j) .1 (p .0, head-of j h), good-after j filled h)

@@ -26,7 +26,7 @@ use Rattle.job.proofs.TwoWay.Many.{Run, many-read}
 use Rattle.job.proofs.TwoWay.Pins.{New, new-nil, new-cons, new-append}
 
 -- the fields of a net's head
-abbrev netFields : Net → List (ℕ × ℕ)
+abbrev pub netFields : Net → List (ℕ × ℕ)
 netFields net = (4, length (net .pins) - 1) ∷ (4, length (net .boxes)) ∷ []
 
 module _ (B : List ℕ) (bits : AllBelow 2 B) (g : Grid) (small : GoodGrid g) (obstacles : List Obstacle) where
@@ -69,7 +69,7 @@ module _ (B : List ℕ) (bits : AllBelow 2 B) (g : Grid) (small : GoodGrid g) (o
           }
 
   -- the bits of a net stand there where those of its head, its pins and its boxes do
-  net-placed : (at : ℕ) (net : Net)
+  pub net-placed : (at : ℕ) (net : Net)
       → Placed B at (netBits net)
       ↔ (Placed B at (groupBits (netFields net))
       × (Placed B (at + 8) (concatBits vertexBits (net .pins)) × Placed B (at + 8 + 19 * length (net .pins)) (concatBits boxBits (net .boxes))))
@@ -77,7 +77,7 @@ module _ (B : List ℕ) (bits : AllBelow 2 B) (g : Grid) (small : GoodGrid g) (o
   net-placed at net = simp (placed-append, net-head-bits, concat-bits vertexBits 19 vertex-bits) Iff·rfl
 
   -- the head of a net stands there and fits, where it is whole and its fields hold its numbers
-  net-head : (at : ℕ) (net : Net)
+  pub net-head : (at : ℕ) (net : Net)
       → (Placed B at (groupBits (netFields net)) × Fits (netFields net)) ↔ (T (whole B at 8) × FieldsAt B at (netFields net))
   unfolding widths
   net-head at net = group-placed B at bits (netFields net) (lit< tt)

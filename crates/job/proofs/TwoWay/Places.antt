@@ -2,6 +2,7 @@
 --     Placed                       bits stand in B from a position on
 --     placed, placed-nil           bits with anything behind them do; no bits do
 --     placed-append                two runs do where the first does, and the second behind it
+--     placed-whole                 some bits that stand there are all there
 --     widths, length-groupBits     the bits that a group of fields takes
 --     Fits, FieldsAt               numbers fit their fields; the fields from a position on hold these numbers
 --     group-placed                 a group of fields stands there and fits, where the group is whole and its fields hold its numbers
@@ -52,7 +53,7 @@ placed-append B at xs ys = (apart, together)
     together h = rw (append-assoc, ← same-end, ← (h .1)) (h .0)
 
 -- some bits that stand there are all there
-placed-whole : (B : List ℕ) (at : ℕ) (bits : List ℕ) → 0 < length bits → Placed B at bits → at + length bits ≤ length B
+pub placed-whole : (B : List ℕ) (at : ℕ) (bits : List ℕ) → 0 < length bits → Placed B at bits → at + length bits ≤ length B
 unfolding Placed
 placed-whole B at bits some e = omega (arith, simp (length-append, length-drop) at (ap length e))
 

@@ -1,0 +1,65 @@
+-- `job::groups::box_group` meets its contract: the six fields follow each other in the group's 38 bits.
+use borrow.Author.Needs.{needs}
+use native.Mathlib.Nat.{add-assoc}
+use native.Mathlib.Omega.{arith}
+use Rattle.job.specs.Reading.{boxAt}
+use Rattle.job.specs.Structs.{boxGroup}
+use Rattle.job.proofs.Fields.{is-whole, is-cut, Left, all-left, past, room}
+use Rattle.job.proofs.groups.box_group.Statement.{statement}
+use Rattle.job.proofs.groups.box_group.Tie as tie
+
+whole-requires : tie.Need-whole-requires
+whole-requires c κs = search needs
+
+returns : tie.Need-returns
+unfolding boxGroup
+returns c = rw (is-cut (c .before .whole .ensures) (c .if1 .taken))
+
+-- all bits of the group, where it is whole
+all : (c : tie.Else1) → Left (c .before .before .before .args .s .now) (c .before .before .before .args .at) 38
+all c = all-left 38 (is-whole (c .before .whole .ensures) (c .if1 .left)) (omega arith)
+
+field-requires : tie.Need-field-requires
+field-requires c κs = room tt (all c)
+
+field-requires-2 : tie.Need-field-requires-2
+field-requires-2 c κs = room tt (past 3 tt (c .field .ensures) (all (c .before)))
+
+-- what is left past the layers
+past-layers : (c : tie.After-field2) → Left (c .before .before .before .before .before .args .s .now) (c .field2 .result .next .at) 32
+past-layers c = past 3 tt (c .field2 .ensures) (past 3 tt (c .before .field .ensures) (all (c .before .before)))
+
+field-requires-3 : tie.Need-field-requires-3
+field-requires-3 c κs = room tt (past-layers c)
+
+field-requires-4 : tie.Need-field-requires-4
+field-requires-4 c κs = room tt (past 8 tt (c .field3 .ensures) (past-layers (c .before)))
+
+-- what is left past the rows
+past-rows : (c : tie.After-field4) → Left (c .before .before .before .before .before .before .before .args .s .now) (c .field4 .result .next .at) 16
+past-rows c = past 8 tt (c .field4 .ensures) (past 8 tt (c .before .field3 .ensures) (past-layers (c .before .before)))
+
+field-requires-5 : tie.Need-field-requires-5
+field-requires-5 c κs = room tt (past-rows c)
+
+field-requires-6 : tie.Need-field-requires-6
+field-requires-6 c κs = room tt (past 8 tt (c .field5 .ensures) (past-rows (c .before)))
+
+returns-2 : tie.Need-returns-2
+unfolding boxGroup boxAt
+returns-2 c =
+    rw (
+      is-whole (c .before .before .before .before .before .before .before .whole .ensures) (c .before .before .before .before .before .before .if1 .left),
+      c .field6 .ensures,
+      c .before .field5 .ensures,
+      c .before .before .field4 .ensures,
+      c .before .before .before .field3 .ensures,
+      c .before .before .before .before .field2 .ensures,
+      c .before .before .before .before .before .field .ensures,
+    )
+    (simp add-assoc)
+
+pub box-group-spec : {M : Type 1} → statement M
+box-group-spec =
+    tie.close
+    (tie.spec whole-requires returns field-requires field-requires-2 field-requires-3 field-requires-4 field-requires-5 field-requires-6 returns-2)

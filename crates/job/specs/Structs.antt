@@ -1,0 +1,209 @@
+-- The forms in which the code holds a job's parts, each made from the records of Job and the readers of Reading.
+-- Not here: the marks by which the code holds pins against obstacles and earlier pins (Marks).
+use Prim.Native.Nat.{ℕ, _≤_, _<_, suc, _-_, _+_, max}
+use mathlib.Core.List.{List, [], _∷_, map, _++_}
+use mathlib.Core.Bool.{Bool, cond}
+use lib.ListN.{replicate, length, set}
+use lib.Dec.{eqb}
+use Rattle.bits.specs.Bits.{bitsOf, field, whole}
+use Rattle.job.specs.Grid.{Grid, Vertex, stepsColumn, vertices}
+use Rattle.job.specs.Job.{closedPrice, Layer, Obstacle, Box, Job}
+use Rattle.job.specs.Reading.{Read, refused, good, Head, headAt, layerAt, vertexAt, obstacleAt, boxAt, jobHead, netsAt, netsWidth}
+use Rattle.job.specs.declared.penalty.Penalty.{Penalty}
+use Rattle.job.specs.declared.penalty.Penalty.the-variants.{Closed, Price}
+use Rattle.job.specs.declared.grid.Grid.{Grid as GridStruct}
+use Rattle.job.specs.declared.grid.Vertex.{Vertex as VertexStruct}
+use Rattle.job.specs.declared.groups.Head.{Head as HeadStruct}
+use Rattle.job.specs.declared.groups.Layer.{Layer as LayerStruct}
+use Rattle.job.specs.declared.groups.Obstacle.{Obstacle as ObstacleStruct}
+use Rattle.job.specs.declared.groups.NetHead.{NetHead}
+use Rattle.job.specs.declared.groups.Box.{Box as BoxStruct}
+use Rattle.job.specs.declared.groups.HeadGroup.{HeadGroup}
+use Rattle.job.specs.declared.groups.LayerGroup.{LayerGroup}
+use Rattle.job.specs.declared.groups.VertexGroup.{VertexGroup}
+use Rattle.job.specs.declared.groups.ObstacleGroup.{ObstacleGroup}
+use Rattle.job.specs.declared.groups.NetGroup.{NetGroup}
+use Rattle.job.specs.declared.groups.BoxGroup.{BoxGroup}
+use Rattle.job.specs.declared.head.HeadRead.{HeadRead}
+use Rattle.job.specs.declared.layers.LayerRead.{LayerRead}
+use Rattle.job.specs.declared.layers.Layers.{Layers}
+use Rattle.job.specs.declared.layers.LayersRead.{LayersRead}
+use Rattle.job.specs.declared.obstacles.ObstacleRead.{ObstacleRead}
+use Rattle.job.specs.declared.reached.Reached.{Reached}
+use Rattle.job.specs.declared.whole.JobRead.{JobRead}
+
+unfoldable pub penaltyOf : ℕ → Penalty
+penaltyOf field = cond (eqb field closedPrice) Closed (Price field)
+
+-- ---- structs and the records that they hold
+
+abbrev pub gridOf : GridStruct → Grid
+gridOf g = record { direction = g .direction; layers = g .layers; columns = g .columns; rows = g .rows }
+
+abbrev pub vertexOf : VertexStruct → Vertex
+vertexOf v = record { layer = v .layer; row = v .row; column = v .column }
+
+abbrev pub obstacleOf : ObstacleStruct → Obstacle
+obstacleOf o = record { first = vertexOf (o .first); run = o .run }
+
+abbrev pub boxOf : BoxStruct → Box
+boxOf b =
+    record {
+      layerLow = b .layers .low;
+      layerHigh = b .layers .high;
+      rowLow = b .rows .low;
+      rowHigh = b .rows .high;
+      columnLow = b .columns .low;
+      columnHigh = b .columns .high;
+    }
+
+abbrev pub headOf : HeadStruct → Head
+headOf h = record { grid = gridOf (h .grid); guide = h .guide; short = h .short; nets = h .nets; obstacles = h .obstacles }
+
+abbrev pub gridStruct : Grid → GridStruct
+gridStruct g = record { direction = g .direction; layers = g .layers; columns = g .columns; rows = g .rows }
+
+abbrev pub headStruct : Head → HeadStruct
+headStruct h =
+    record { grid = gridStruct (h .grid); guide = h .guide; short = h .short; nets = h .nets; obstacles = h .obstacles }
+
+abbrev pub vertexStruct : Vertex → VertexStruct
+vertexStruct v = record { layer = v .layer; row = v .row; column = v .column }
+
+abbrev pub layerStruct : Layer → LayerStruct
+layerStruct l = record { wire = l .wire; via = l .via; least = l .minLength; area = l .area }
+
+abbrev pub obstacleStruct : Obstacle → ObstacleStruct
+obstacleStruct o = record { first = vertexStruct (o .first); run = o .run }
+
+abbrev pub boxStruct : Box → BoxStruct
+boxStruct b =
+    record {
+      layers = record { low = b .layerLow; high = b .layerHigh };
+      rows = record { low = b .rowLow; high = b .rowHigh };
+      columns = record { low = b .columnLow; high = b .columnHigh };
+    }
+
+-- ---- groups: whole, or cut
+
+unfoldable pub headGroup : List ℕ → HeadGroup
+headGroup bytes =
+    cond (whole (bitsOf bytes) 0 80)
+    (HeadGroup.Whole (field (bitsOf bytes) 0 4) (headStruct (headAt (bitsOf bytes) 0)))
+    HeadGroup.Cut
+
+unfoldable pub layerGroup : List ℕ → ℕ → LayerGroup
+layerGroup bytes at =
+    cond (whole (bitsOf bytes) at 40) (LayerGroup.Whole (layerStruct (layerAt (bitsOf bytes) at))) LayerGroup.Cut
+
+unfoldable pub vertexGroup : List ℕ → ℕ → VertexGroup
+vertexGroup bytes at =
+    cond (whole (bitsOf bytes) at 19) (VertexGroup.Whole (vertexStruct (vertexAt (bitsOf bytes) at))) VertexGroup.Cut
+
+unfoldable pub obstacleGroup : List ℕ → ℕ → ObstacleGroup
+obstacleGroup bytes at =
+    cond (whole (bitsOf bytes) at 27) (ObstacleGroup.Whole (obstacleStruct (obstacleAt (bitsOf bytes) at))) ObstacleGroup.Cut
+
+unfoldable pub netGroup : List ℕ → ℕ → NetGroup
+netGroup bytes at =
+    cond (whole (bitsOf bytes) at 8)
+    (NetGroup.Whole (record { pins = suc (field (bitsOf bytes) at 4); boxes = field (bitsOf bytes) (at + 4) 4 }))
+    NetGroup.Cut
+
+unfoldable pub boxGroup : List ℕ → ℕ → BoxGroup
+boxGroup bytes at =
+    cond (whole (bitsOf bytes) at 38) (BoxGroup.Whole (boxStruct (boxAt (bitsOf bytes) at))) BoxGroup.Cut
+
+-- ---- what was read, or a refusal with its place
+
+unfoldable pub headRead : Read Head → HeadRead
+headRead (refused n p) = HeadRead.Refused n p
+headRead (good h) = HeadRead.Good (headStruct h)
+
+unfoldable pub layerRead : Read Layer → LayerRead
+layerRead (refused n p) = LayerRead.Refused n p
+layerRead (good l) = LayerRead.Good (layerStruct l)
+
+unfoldable pub obstacleRead : Read Obstacle → ObstacleRead
+obstacleRead (refused n p) = ObstacleRead.Refused n p
+obstacleRead (good o) = ObstacleRead.Good (obstacleStruct o)
+
+-- an array of eight: what each layer holds, then 0
+unfoldable pub eight : List ℕ → List ℕ
+eight xs = xs ++ replicate (8 - length xs) 0
+
+unfoldable pub layersOf : List Layer → Layers
+layersOf ls =
+    record {
+      wire = eight (map (λ (l : Layer). l .wire) ls);
+      via = eight (map (λ (l : Layer). l .via) ls);
+      least = eight (map (λ (l : Layer). l .minLength) ls);
+      area = eight (map (λ (l : Layer). l .area) ls);
+    }
+
+-- the largest of numbers
+unfoldable pub largestIn : List ℕ → ℕ
+largestIn [] = 0
+largestIn (x ∷ xs) = max x (largestIn xs)
+
+-- the layer lines with one more, at its layer
+unfoldable pub withLine : Layers → ℕ → LayerStruct → Layers
+withLine ls layer l =
+    record {
+      wire = set (ls .wire) layer (l .wire);
+      via = set (ls .via) layer (l .via);
+      least = set (ls .least) layer (l .least);
+      area = set (ls .area) layer (l .area);
+    }
+
+unfoldable pub layersRead : (end : ℕ) → Read (List Layer) → LayersRead
+layersRead end (refused n p) = record { reached = Reached.Refused n p; layers = layersOf [] }
+layersRead end (good ls) = record { reached = Reached.At end; layers = layersOf ls }
+
+-- the bit after a job's last field
+unfoldable pub jobEnd : Job → ℕ
+jobEnd j = netsAt (jobHead j) + netsWidth (j .nets)
+
+-- the head after a refusal
+unfoldable pub noHead : HeadStruct
+noHead =
+    record {
+      grid = record { direction = 0; layers = 0; columns = 0; rows = 0 };
+      guide = 0;
+      short = 0;
+      nets = 0;
+      obstacles = 0;
+    }
+
+unfoldable pub jobRead : Read Job → JobRead
+jobRead (refused n p) = record { reached = Reached.Refused n p; head = noHead; layers = layersOf [] }
+jobRead (good j) = record { reached = Reached.At (jobEnd j); head = headStruct (jobHead j); layers = layersOf (j .lines) }
+
+-- whether reading many groups comes to their end
+unfoldable pub manyReached : {A : Type 0} → (end : ℕ) → Read A → Reached
+manyReached end (refused n p) = Reached.Refused n p
+manyReached end (good xs) = Reached.At end
+
+-- ---- what the code asks of a grid
+
+-- its numbers lie in their fields' ranges
+pub record Small (g : GridStruct) : Type 0 where
+  pub direction : g .direction ≤ 1
+  pub layers : g .layers ≤ 8
+  pub columns : g .columns ≤ 256
+  pub rows : g .rows ≤ 256
+
+-- a vertex whose numbers lie in their fields' ranges
+pub record InFields (v : VertexStruct) : Type 0 where
+  pub layer : v .layer < 8
+  pub row : v .row < 256
+  pub column : v .column < 256
+
+-- and it has at most 16,384 vertices
+pub record Sized (g : GridStruct) : Type 0 where
+  pub small : Small g
+  pub vertices : vertices (gridOf g) ≤ 16384
+
+-- what a step high along the layer's track adds to a vertex number
+unfoldable pub strideOf : Grid → (layer : ℕ) → ℕ
+strideOf g layer = cond (stepsColumn g layer) 1 (g .columns)

@@ -1,0 +1,2 @@
+-- What the proof of sizing leans on.
+mod Sizes

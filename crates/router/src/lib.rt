@@ -1,0 +1,2 @@
+// The public calls. A host calls them with any bytes and slices of any length.
+pub mod sizing;

@@ -1,0 +1,42 @@
+// Sizing: how many vertices a job has, and how much work memory its routing needs.
+ghost use mathlib.Core.Path.{_≡_};
+ghost use Rattle.router.specs.Sizing.{sizingOf};
+use job::layers::largest_least;
+use job::reached::Reached;
+use job::whole::read_job;
+
+// The refusal is 0 where the job is good, and so is its place; else vertices and work are 0.
+#[repr(C)]
+pub struct SizingResult {
+    pub refusal: usize,
+    pub place: usize,
+    pub vertices: usize,
+    pub work: usize,
+}
+
+#[no_mangle]
+pub extern "C" fn maizespell_sizing(bytes: &[u8]) -> SizingResult
+    ensures { λ r. ⌜ r ≡ sizingOf (now (bytes .entry)) ⌝ }
+{
+    let mut marks = [0u8; 16384];
+    let read = read_job(bytes, &mut marks);
+    let reached = read.reached;
+    match reached {
+        Reached::At(_) => {
+            let vertices = read.head.grid.vertices();
+            let largest = largest_least(read.layers);
+            SizingResult {
+                refusal: 0,
+                place: 0,
+                vertices,
+                work: vertices * 4 * (largest + 1),
+            }
+        }
+        Reached::Refused(refusal, place) => SizingResult {
+            refusal,
+            place,
+            vertices: 0,
+            work: 0,
+        },
+    }
+}

@@ -1,0 +1,4 @@
+//! Good jobs made bad.
+
+pub mod aimed;
+pub mod blind;

@@ -1,0 +1,22 @@
+//! Checks the router's sizing call against a second reader of the job format.
+//!
+//! A job is built as data (`job`), by hand (`marked`, `largest`) or at random
+//! (`generate`), packed to bytes, perhaps damaged (`damage`), and given to the
+//! library (`library`) and to the second reader (`reader`, `sizing`). Both must
+//! give the same answer (`compare`).
+//!
+//! Not here: routing and replay.
+
+pub mod bits;
+pub mod compare;
+pub mod damage;
+pub mod generate;
+pub mod grid;
+pub mod job;
+pub mod largest;
+pub mod library;
+pub mod marked;
+pub mod places;
+pub mod random;
+pub mod reader;
+pub mod sizing;

@@ -1,0 +1,36 @@
+//! The sizing answer that the second reader expects.
+
+use crate::library::SizingResult;
+use crate::reader::{read, Refusal};
+
+/// Vertices and work need of a good job, or its refusal.
+pub fn expected(bytes: &[u8]) -> SizingResult {
+    match read(bytes) {
+        Err(refusal) => refused(refusal),
+        Ok(job) => {
+            let lengths = job.layers.iter().map(|layer| layer.min_length);
+            let largest = lengths.max().expect("a job has a layer");
+            sized(job.grid().vertices(), largest)
+        }
+    }
+}
+
+/// The answer to a good job: "vertices × 4 × (largest M + 1)" is the work need.
+pub fn sized(vertices: u32, largest_min_length: u32) -> SizingResult {
+    SizingResult {
+        refusal: 0,
+        place: 0,
+        vertices: u64::from(vertices),
+        work: u64::from(vertices) * 4 * (u64::from(largest_min_length) + 1),
+    }
+}
+
+/// The answer to a job that is turned back.
+pub fn refused(refusal: Refusal) -> SizingResult {
+    SizingResult {
+        refusal: refusal.number,
+        place: refusal.place,
+        vertices: 0,
+        work: 0,
+    }
+}
