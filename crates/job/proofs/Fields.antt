@@ -20,13 +20,14 @@ use Rattle.bits.specs.Cursors.{Room, taken}
 use Rattle.bits.specs.declared.Taken.{Taken}
 use Rattle.bits.proofs.Laws.{length-bitsOf, bitsOf-bits, field-below}
 
-module _ {answer test : Bool} (e : answer ≡ test) where
+-- w bits are tested
+module _ (w : ℕ) (bits : List ℕ) (at : ℕ) {answer : Bool} (e : answer ≡ whole bits at w) where
   -- a group whose test did not fail is whole
-  pub is-whole : not answer ≡ false → test ≡ true
+  pub is-whole : not answer ≡ false → whole bits at w ≡ true
   is-whole h = sym e ∙ not-false answer h
 
   -- a group whose test failed is cut
-  pub is-cut : not answer ≡ true → test ≡ false
+  pub is-cut : not answer ≡ true → whole bits at w ≡ false
   is-cut h = sym e ∙ not-true answer h
 
 -- what is chosen and is not the second is the first, and the test is true

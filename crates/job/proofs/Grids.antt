@@ -4,7 +4,6 @@
 --     number-below, number-inj       a vertex number is below the number of vertices, and says its vertex
 --     next-layer, number-next        a step high keeps the layer and adds the stride
 --     roomHigh, all-inside           a run is inside where its first vertex is and the track has room
---     mark-every, in-marks           marking a run is marking a stride apart, at places that lie in the marks
 use Prim.Native.Nat.{ℕ, zero, suc, _+_, _-_, _*_, _/_, _%_, _≤_, _<_}
 use mathlib.Core.Path.{_≡_, refl, sym, ap, _∙_}
 use mathlib.Core.List.{List}
@@ -19,7 +18,6 @@ use borrow.Author.Tests.{lt-ltb, le-ltb, le-leb, lt-leb, eq-eqb}
 use Rattle.job.specs.Lists.{all}
 use Rattle.job.specs.Grid.{Grid, Vertex, vertices, vertexNumber, inside, same, stepsColumn, nextHigh, runHigh}
 use Rattle.job.specs.Structs.{strideOf}
-use Rattle.job.specs.Marks.{markAll, markEvery, InMarks}
 
 -- both of two tests
 pub both : (a b : Bool) → T (a && b) → T a × T b
@@ -164,22 +162,3 @@ all-inside g v zero = and-on (inside g v) (λ h. sym (le-leb 1 (roomHigh g v) (r
 all-inside g v (suc n) =
     and-on (inside g v)
     (λ h. all-inside g (nextHigh g v) n ∙ rw (inside-next g v (below g v h), room-next g v) (rest-test n (roomHigh g v)))
-
--- ---- marks of a run
-
--- marking a run is marking a stride apart
-pub mark-every : (g : Grid) (v : Vertex) (n : ℕ) (m : List ℕ)
-    → markAll g (runHigh g v n) m ≡ markEvery (strideOf g (v .layer)) n (vertexNumber g v) m
-unfolding markAll markEvery runHigh
-mark-every g v zero m = refl
-mark-every g v (suc n) m = rw (number-next g v, ap (strideOf g) (next-layer g v)) at (mark-every g (nextHigh g v) n (set m (vertexNumber g v) 1))
-
--- the places of a run inside lie in the marks
-pub in-marks : (g : Grid) (v : Vertex) (n : ℕ) → vertices g ≤ 16384 → T (all (inside g) (runHigh g v n))
-    → InMarks (strideOf g (v .layer)) n (vertexNumber g v)
-unfolding all runHigh InMarks
-in-marks g v zero small h = tt
-in-marks g v (suc n) small h =
-    let parts = both (inside g v) (all (inside g) (runHigh g (nextHigh g v) n)) h in
-    let low = number-below g v (parts .0) in
-    (omega arith, rw (number-next g v, ap (strideOf g) (next-layer g v)) at (in-marks g (nextHigh g v) n small (parts .1)))

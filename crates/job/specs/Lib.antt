@@ -5,5 +5,3 @@ pub mod Reading
 pub mod Packing
 pub mod Good
 pub mod Structs
-pub mod Marks
-pub mod Loading

@@ -1,14 +1,12 @@
--- The forms in which the code holds a job's parts, each made from the records of Job and the readers of Reading.
--- Not here: the marks by which the code holds pins against obstacles and earlier pins (Marks).
-use Prim.Native.Nat.{ℕ, _≤_, _<_, suc, _-_, _+_, max}
-use mathlib.Core.List.{List, [], _∷_, map, _++_}
-use mathlib.Core.Bool.{Bool, cond}
-use lib.ListN.{replicate, length, set}
+-- The forms in which the code holds the parts of a job, each made from the records of Job and the readers of Reading.
+use Prim.Native.Nat.{ℕ, _≤_, _<_, suc, _+_}
+use mathlib.Core.List.{List}
+use mathlib.Core.Bool.{cond}
 use lib.Dec.{eqb}
 use Rattle.bits.specs.Bits.{bitsOf, field, whole}
 use Rattle.job.specs.Grid.{Grid, Vertex, stepsColumn, vertices}
-use Rattle.job.specs.Job.{closedPrice, Layer, Obstacle, Box, Job}
-use Rattle.job.specs.Reading.{Read, refused, good, Head, headAt, layerAt, vertexAt, obstacleAt, boxAt, jobHead, netsAt, netsWidth}
+use Rattle.job.specs.Job.{closedPrice, Layer, Obstacle, Box}
+use Rattle.job.specs.Reading.{Head, headAt, layerAt, vertexAt, obstacleAt, boxAt}
 use Rattle.job.specs.declared.penalty.Penalty.{Penalty}
 use Rattle.job.specs.declared.penalty.Penalty.the-variants.{Closed, Price}
 use Rattle.job.specs.declared.grid.Grid.{Grid as GridStruct}
@@ -16,7 +14,6 @@ use Rattle.job.specs.declared.grid.Vertex.{Vertex as VertexStruct}
 use Rattle.job.specs.declared.groups.Head.{Head as HeadStruct}
 use Rattle.job.specs.declared.groups.Layer.{Layer as LayerStruct}
 use Rattle.job.specs.declared.groups.Obstacle.{Obstacle as ObstacleStruct}
-use Rattle.job.specs.declared.groups.NetHead.{NetHead}
 use Rattle.job.specs.declared.groups.Box.{Box as BoxStruct}
 use Rattle.job.specs.declared.groups.HeadGroup.{HeadGroup}
 use Rattle.job.specs.declared.groups.LayerGroup.{LayerGroup}
@@ -24,13 +21,6 @@ use Rattle.job.specs.declared.groups.VertexGroup.{VertexGroup}
 use Rattle.job.specs.declared.groups.ObstacleGroup.{ObstacleGroup}
 use Rattle.job.specs.declared.groups.NetGroup.{NetGroup}
 use Rattle.job.specs.declared.groups.BoxGroup.{BoxGroup}
-use Rattle.job.specs.declared.head.HeadRead.{HeadRead}
-use Rattle.job.specs.declared.layers.LayerRead.{LayerRead}
-use Rattle.job.specs.declared.layers.Layers.{Layers}
-use Rattle.job.specs.declared.layers.LayersRead.{LayersRead}
-use Rattle.job.specs.declared.obstacles.ObstacleRead.{ObstacleRead}
-use Rattle.job.specs.declared.reached.Reached.{Reached}
-use Rattle.job.specs.declared.whole.JobRead.{JobRead}
 
 unfoldable pub penaltyOf : ℕ → Penalty
 penaltyOf field = cond (eqb field closedPrice) Closed (Price field)
@@ -115,74 +105,6 @@ boxGroup bytes at =
     cond (whole (bitsOf bytes) at 38) (BoxGroup.Whole (boxStruct (boxAt (bitsOf bytes) at))) BoxGroup.Cut
 
 -- ---- what was read, or a refusal with its place
-
-unfoldable pub headRead : Read Head → HeadRead
-headRead (refused n p) = HeadRead.Refused n p
-headRead (good h) = HeadRead.Good (headStruct h)
-
-unfoldable pub layerRead : Read Layer → LayerRead
-layerRead (refused n p) = LayerRead.Refused n p
-layerRead (good l) = LayerRead.Good (layerStruct l)
-
-unfoldable pub obstacleRead : Read Obstacle → ObstacleRead
-obstacleRead (refused n p) = ObstacleRead.Refused n p
-obstacleRead (good o) = ObstacleRead.Good (obstacleStruct o)
-
--- an array of eight: what each layer holds, then 0
-unfoldable pub eight : List ℕ → List ℕ
-eight xs = xs ++ replicate (8 - length xs) 0
-
-unfoldable pub layersOf : List Layer → Layers
-layersOf ls =
-    record {
-      wire = eight (map (λ (l : Layer). l .wire) ls);
-      via = eight (map (λ (l : Layer). l .via) ls);
-      least = eight (map (λ (l : Layer). l .minLength) ls);
-      area = eight (map (λ (l : Layer). l .area) ls);
-    }
-
--- the largest of numbers
-unfoldable pub largestIn : List ℕ → ℕ
-largestIn [] = 0
-largestIn (x ∷ xs) = max x (largestIn xs)
-
--- the layer lines with one more, at its layer
-unfoldable pub withLine : Layers → ℕ → LayerStruct → Layers
-withLine ls layer l =
-    record {
-      wire = set (ls .wire) layer (l .wire);
-      via = set (ls .via) layer (l .via);
-      least = set (ls .least) layer (l .least);
-      area = set (ls .area) layer (l .area);
-    }
-
-unfoldable pub layersRead : (end : ℕ) → Read (List Layer) → LayersRead
-layersRead end (refused n p) = record { reached = Reached.Refused n p; layers = layersOf [] }
-layersRead end (good ls) = record { reached = Reached.At end; layers = layersOf ls }
-
--- the bit after a job's last field
-unfoldable pub jobEnd : Job → ℕ
-jobEnd j = netsAt (jobHead j) + netsWidth (j .nets)
-
--- the head after a refusal
-unfoldable pub noHead : HeadStruct
-noHead =
-    record {
-      grid = record { direction = 0; layers = 0; columns = 0; rows = 0 };
-      guide = 0;
-      short = 0;
-      nets = 0;
-      obstacles = 0;
-    }
-
-unfoldable pub jobRead : Read Job → JobRead
-jobRead (refused n p) = record { reached = Reached.Refused n p; head = noHead; layers = layersOf [] }
-jobRead (good j) = record { reached = Reached.At (jobEnd j); head = headStruct (jobHead j); layers = layersOf (j .lines) }
-
--- whether reading many groups comes to their end
-unfoldable pub manyReached : {A : Type 0} → (end : ℕ) → Read A → Reached
-manyReached end (refused n p) = Reached.Refused n p
-manyReached end (good xs) = Reached.At end
 
 -- ---- what the code asks of a grid
 

@@ -10,9 +10,10 @@ use native.Mathlib.Omega.{arith}
 use Rattle.job.specs.Grid.{vertices}
 use Rattle.job.specs.Job.{largestMinLength}
 use Rattle.job.specs.Reading.{refused, readJob}
-use Rattle.job.specs.Structs.{gridOf, largestIn}
-use Rattle.job.specs.declared.whole.JobRead.{JobRead}
-use Rattle.job.proofs.Outcome.{ReadGood, least-below}
+use Rattle.job.specs.Structs.{gridOf}
+use Rattle.reader.specs.Structs.{largestIn}
+use Rattle.reader.specs.declared.whole.JobRead.{JobRead}
+use Rattle.reader.proofs.Outcome.{ReadGood, least-below}
 use Rattle.router.specs.Sizing.{workNeed, sized, sizingOf}
 use Rattle.router.specs.declared.sizing.SizingResult.{SizingResult}
 

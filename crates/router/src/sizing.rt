@@ -1,9 +1,9 @@
 // Sizing: how many vertices a job has, and how much work memory its routing needs.
 ghost use mathlib.Core.Path.{_≡_};
 ghost use Rattle.router.specs.Sizing.{sizingOf};
-use job::layers::largest_least;
-use job::reached::Reached;
-use job::whole::read_job;
+use marks::reached::Reached;
+use reader::layers::largest_least;
+use reader::whole::read_job;
 
 // The refusal is 0 where the job is good, and so is its place; else vertices and work are 0.
 #[repr(C)]

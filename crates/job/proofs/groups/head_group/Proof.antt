@@ -12,11 +12,11 @@ whole-requires c κs = omega arith
 
 returns : tie.Need-returns
 unfolding headGroup
-returns c = rw (is-cut (c .before .whole .ensures) (c .if1 .taken))
+returns c = rw (is-cut 80 _ _ (c .before .whole .ensures) (c .if1 .taken))
 
 -- all bits of the head, where it is whole
 all : (c : tie.Else1) → Left (c .before .before .before .args .s .now) 0 80
-all c = all-left 80 (is-whole (c .before .whole .ensures) (c .if1 .left)) (omega arith)
+all c = all-left 80 (is-whole 80 _ _ (c .before .whole .ensures) (c .if1 .left)) (omega arith)
 
 field-requires : tie.Need-field-requires
 field-requires c κs = room tt (all c)
@@ -72,7 +72,7 @@ returns-2 : tie.Need-returns-2
 unfolding headGroup headAt
 returns-2 c =
     rw (
-      is-whole (c .before .before .before .before .before .before .before .before .before .before .before .before .before .whole .ensures) (c .before .before .before .before .before .before .before .before .before .before .before .before .if1 .left),
+      is-whole 80 _ _ (c .before .before .before .before .before .before .before .before .before .before .before .before .before .whole .ensures) (c .before .before .before .before .before .before .before .before .before .before .before .before .if1 .left),
       c .before .before .before .field9 .ensures,
       c .before .before .before .before .field8 .ensures,
       c .before .before .before .before .before .field7 .ensures,

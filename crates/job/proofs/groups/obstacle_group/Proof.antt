@@ -14,11 +14,11 @@ whole-requires c κs = search needs
 
 returns : tie.Need-returns
 unfolding obstacleGroup
-returns c = rw (is-cut (c .before .whole .ensures) (c .if1 .taken))
+returns c = rw (is-cut 27 _ _ (c .before .whole .ensures) (c .if1 .taken))
 
 -- all bits of the group, where it is whole
 all : (c : tie.Else1) → Left (c .before .before .before .args .s .now) (c .before .before .before .args .at) 27
-all c = all-left 27 (is-whole (c .before .whole .ensures) (c .if1 .left)) (omega arith)
+all c = all-left 27 (is-whole 27 _ _ (c .before .whole .ensures) (c .if1 .left)) (omega arith)
 
 field-requires : tie.Need-field-requires
 field-requires c κs = room tt (all c)
@@ -43,7 +43,7 @@ returns-2 : tie.Need-returns-2
 unfolding obstacleGroup obstacleAt vertexAt
 returns-2 c =
     rw (
-      is-whole (c .before .before .before .before .before .before .whole .ensures) (c .before .before .before .before .before .if1 .left),
+      is-whole 27 _ _ (c .before .before .before .before .before .before .whole .ensures) (c .before .before .before .before .before .if1 .left),
       c .before .field4 .ensures,
       c .before .before .field3 .ensures,
       c .before .before .before .field2 .ensures,

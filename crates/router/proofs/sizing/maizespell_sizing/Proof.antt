@@ -1,7 +1,7 @@
 -- `router::sizing::maizespell_sizing` meets its contract: the job is refused, or its numbers are those of the job that was read.
 use native.Mathlib.Omega.{arith}
 use borrow.Author.Needs.{needs}
-use Rattle.job.proofs.Outcome.{read-at, read-refused, zeros-bare}
+use Rattle.reader.proofs.Outcome.{read-at, read-refused, zeros-bare}
 use Rattle.router.proofs.Sizes.{good-numbers, good-sized, refused-sized}
 use Rattle.router.proofs.sizing.maizespell_sizing.Statement.{statement}
 use Rattle.router.proofs.sizing.maizespell_sizing.Tie as tie

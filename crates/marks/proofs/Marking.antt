@@ -1,0 +1,63 @@
+-- The code's reading with marks comes to what the document's reading says: the same refusal, or the same end with marks of all obstacles and pins.
+--     groups-refused, groups-good               obstacles, nets and tail, read with marks
+--     readRest, rest-of-job                    what they are read beside, as a part of a job's bits
+--     many-length, nets-length, bare-marks      as many are read as asked for; marks at first
+-- Stated and proved below this file:
+--     Following     the relation of the two readings, and its laws
+--     Marked        what marking does to marks
+--     Rest          reading in parts
+--     Obstacles     obstacles
+--     Nets          pins and nets
+mod Following
+mod Marked
+mod Rest
+mod Obstacles
+mod Nets
+use Prim.Native.Nat.{ℕ, _+_, _≤_}
+use mathlib.Core.Path.{_≡_, refl}
+use mathlib.Core.List.{List, [], append-nil}
+use Rattle.job.specs.Grid.{Grid, vertices}
+use Rattle.job.specs.Job.{Obstacle, Net}
+use Rattle.job.specs.Reading.{Head, refused, good, readTail, netsWidth, obstaclesAt, netsAt}
+use Rattle.job.specs.Good.{allPins}
+use Rattle.marks.specs.Marks.{Bare, answerOf, marksOf, groupsFrom, Marks}
+use Rattle.marks.specs.declared.reached.Reached.{Reached}
+use Following.{Follows, follows-refused, follows-good, follows-then, follows-end, plain-follows}
+use Rest.{then-bind}
+use Obstacles.{obstacles-follow}
+use Nets.{nets-follow}
+pub use Rest.{many-length, nets-length, rest-of-job}
+unfoldable pub use Rest.{readRest}
+use Marked.{marks-none}
+
+-- bare marks mark nothing
+pub bare-marks : (g : Grid) {m : List ℕ} → Bare m → Marks g [] [] m
+unfolding Bare
+bare-marks g e = rw e (marks-none g)
+
+-- obstacles, nets and tail with marks follow obstacles, nets and tail
+groups-follow : (bits : List ℕ) (head : Head) (m : List ℕ) → vertices (head .grid) ≤ 16384 → Marks (head .grid) [] [] m
+    → Follows (λ rest. netsAt head + netsWidth (rest .1)) (λ rest. Marks (head .grid) (rest .0) (allPins (rest .1)))
+    (groupsFrom bits head m) (readRest bits head)
+unfolding groupsFrom readRest netsAt
+groups-follow bits head m small none =
+    follows-then _ _ (obstacles-follow bits (head .grid) small (head .obstacles) (obstaclesAt head) [] [] m none)
+    (λ obstacles m′ blocked.
+    follows-then _ _ (nets-follow bits (head .grid) small obstacles [] (head .nets) (netsAt head) m′ (rw append-nil at blocked))
+    (λ nets m″ end. rw then-bind
+    (follows-end (λ done. (obstacles, nets))
+    (plain-follows (λ done. netsAt head + netsWidth nets) _ (readTail bits (netsAt head + netsWidth nets)) m″ (λ done e. refl)
+    (rw append-nil at end))
+    (λ done. refl) (λ done m‴ marks. marks))))
+
+-- what reading refuses the code refuses, by the same number at the same place
+pub groups-refused : (bits : List ℕ) (head : Head) (m : List ℕ) (n p : ℕ) → vertices (head .grid) ≤ 16384 → Marks (head .grid) [] [] m
+    → readRest bits head ≡ refused n p → answerOf (groupsFrom bits head m) ≡ Reached.Refused n p
+groups-refused bits head m n p small none e = follows-refused n p (groups-follow bits head m small none) e
+
+-- what reading reads the code comes to the end of, with marks of all its obstacles and pins
+pub groups-good : (bits : List ℕ) (head : Head) (m : List ℕ) (obstacles : List Obstacle) (nets : List Net) → vertices (head .grid) ≤ 16384
+    → Marks (head .grid) [] [] m → readRest bits head ≡ good (obstacles, nets)
+    → (answerOf (groupsFrom bits head m) ≡ Reached.At (netsAt head + netsWidth nets))
+    × Marks (head .grid) obstacles (allPins nets) (marksOf (groupsFrom bits head m))
+groups-good bits head m obstacles nets small none e = follows-good (obstacles, nets) (groups-follow bits head m small none) e
