@@ -1,5 +1,4 @@
 -- Laws of the grid.
---     both                           the parts of a conjunction
 --     same-eq, same-refl             the test for the same vertex passes at equal vertices alone
 --     number-below, number-inj       a vertex number is below the number of vertices, and says its vertex
 --     next-layer, number-next        a step high keeps the layer and adds the stride
@@ -18,11 +17,7 @@ use borrow.Author.Tests.{lt-ltb, le-ltb, le-leb, lt-leb, eq-eqb}
 use Rattle.job.specs.Lists.{all}
 use Rattle.job.specs.Grid.{Grid, Vertex, vertices, vertexNumber, inside, same, stepsColumn, nextHigh, runHigh}
 use Rattle.job.specs.Structs.{strideOf}
-
--- both of two tests
-pub both : (a b : Bool) → T (a && b) → T a × T b
-both true b h = (tt, h)
-both false b h = absurd h
+use Rattle.job.proofs.Tests.{and-holds}
 
 -- ---- inside
 
@@ -36,8 +31,8 @@ pub record Below (g : Grid) (v : Vertex) : Type 0 where
 pub below : (g : Grid) (v : Vertex) → T (inside g v) → Below g v
 unfolding inside
 below g v h =
-    let outer = both (ltb (v .layer) (g .layers)) (ltb (v .row) (g .rows) && ltb (v .column) (g .columns)) h in
-    let inner = both (ltb (v .row) (g .rows)) (ltb (v .column) (g .columns)) (outer .1) in
+    let outer = and-holds (ltb (v .layer) (g .layers)) (ltb (v .row) (g .rows) && ltb (v .column) (g .columns)) .0 h in
+    let inner = and-holds (ltb (v .row) (g .rows)) (ltb (v .column) (g .columns)) .0 (outer .1) in
     record { layer = ltb→lt _ _ (outer .0); row = ltb→lt _ _ (inner .0); column = ltb→lt _ _ (inner .1) }
 
 -- ---- the same vertex
@@ -46,8 +41,8 @@ below g v h =
 pub same-eq : (v w : Vertex) → same v w ≡ true → v ≡ w
 unfolding same
 same-eq v w h =
-    let outer = both (eqb (v .layer) (w .layer)) (eqb (v .row) (w .row) && eqb (v .column) (w .column)) (rw h tt) in
-    let inner = both (eqb (v .row) (w .row)) (eqb (v .column) (w .column)) (outer .1) in
+    let outer = and-holds (eqb (v .layer) (w .layer)) (eqb (v .row) (w .row) && eqb (v .column) (w .column)) .0 (rw h tt) in
+    let inner = and-holds (eqb (v .row) (w .row)) (eqb (v .column) (w .column)) .0 (outer .1) in
     let l : v .layer ≡ w .layer = eqb→eq _ _ (outer .0) in
     let r : v .row ≡ w .row = eqb→eq _ _ (inner .0) in
     let c : v .column ≡ w .column = eqb→eq _ _ (inner .1) in

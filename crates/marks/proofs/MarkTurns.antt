@@ -2,7 +2,7 @@
 --     mark-turn, mark-done, stride-within               marking a run: one mark, none left, and the stride
 --     run-first, run-outside, run-columns, run-rows     an obstacle by its first vertex and the room on its track
 --     group-run, read-cut, read-outside, read-inside    reading an obstacle by its group
---     read-fits                                         an obstacle that was read is inside
+--     obstacle-told, read-fits                          an obstacle that was read is inside
 --     obstacles-turn, obstacles-stop, obstacles-done    reading obstacles: one read, one refused, and none left
 use Prim.Native.Nat.{ℕ, zero, suc, _+_, _-_, _≤_, _<_}
 use mathlib.Core.Path.{_≡_, refl, ap}
@@ -23,7 +23,8 @@ use Rattle.job.specs.declared.grid.Grid.{Grid as GridStruct}
 use Rattle.job.specs.declared.groups.Obstacle.{Obstacle as ObstacleStruct}
 use Rattle.job.specs.declared.groups.ObstacleGroup.{ObstacleGroup}
 use Rattle.marks.specs.declared.obstacles.ObstacleRead.{ObstacleRead}
-use Rattle.job.proofs.Grids.{both, roomHigh, all-inside}
+use Rattle.job.proofs.Tests.{and-holds}
+use Rattle.job.proofs.Grids.{roomHigh, all-inside}
 use Rattle.job.proofs.Binds.{steps}
 
 -- ---- marking a run
@@ -60,7 +61,7 @@ module _ (g : Grid) (o : Obstacle) (some : 1 ≤ o .run) where
 
   -- where all of it is inside, so is its first vertex
   pub run-first : T (all (inside g) (covered g o)) → T (inside g (o .first))
-  run-first h = both (inside g (o .first)) (leb (o .run) (roomHigh g (o .first))) (rw run-inside at h) .0
+  run-first h = and-holds (inside g (o .first)) (leb (o .run) (roomHigh g (o .first))) .0 (rw run-inside at h) .0
 
   -- with its first vertex outside, not all of it is inside
   pub run-outside : inside g (o .first) ≡ false → all (inside g) (covered g o) ≡ false
@@ -143,13 +144,18 @@ read-refused (refused n′ p′) e = cc
 read-refused (good o) e = cc
 
 -- an obstacle that was read covers at least one vertex, and all that it covers is inside
+pub obstacle-told : (bits : List ℕ) (g : Grid) (after at : ℕ) {o : Obstacle} → readObstacle bits g after at ≡ good o
+    → (1 ≤ o .run) × T (all (inside g) (covered g o))
+unfolding readObstacle obstacleAt
+obstacle-told bits g after at {o} e =
+    let parts = simp steps at e in
+    let this : obstacleAt bits at ≡ o = parts .1 .1 in
+    (omega (arith, ap (λ (x : Obstacle). x .run) this), rw this at (parts .1 .0))
+
+-- the same of the struct that holds it
 pub read-fits : (bits : List ℕ) (g : Grid) (at : ℕ) {x : ObstacleStruct} → obstacleRead (readObstacle bits g 0 at) ≡ ObstacleRead.Good x
     → (1 ≤ x .run) × T (all (inside g) (covered g (obstacleOf x)))
-unfolding readObstacle obstacleAt
-read-fits bits g at {x} e =
-    let parts = simp steps at (read-good (readObstacle bits g 0 at) e) in
-    let this : obstacleAt bits at ≡ obstacleOf x = parts .1 .1 in
-    (omega (arith, ap (λ (o : Obstacle). o .run) this), rw this at (parts .1 .0))
+read-fits bits g at e = obstacle-told bits g 0 at (read-good (readObstacle bits g 0 at) e)
 
 -- ---- reading obstacles
 

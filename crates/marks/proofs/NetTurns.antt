@@ -1,7 +1,8 @@
 -- Reading the nets, way out by way out and turn by turn.
 --     pin-cut, pin-rules, index-below     one pin
 --     PinsLeft and its laws, pins-place   pins, in a loop, and the place after them
---     box-cut, box-rules                  one box
+--     box-layers, box-rows, box-columns   a box, axis by axis
+--     box-cut, box-told                   one box
 --     BoxesLeft and its laws              boxes, in a loop
 --     net-cut, net-counts, net-rules      one net
 --     NetsLeft and its laws               nets, in a loop
@@ -17,7 +18,7 @@ use Rattle.bits.specs.Bits.{bitsOf, whole, field}
 use Rattle.bits.proofs.Laws.{field-below, bitsOf-bits}
 use Rattle.job.specs.Grid.{Grid, inside, vertexNumber}
 use Rattle.job.specs.Job.{Box}
-use Rattle.job.specs.Reading.{Read, refused, good, _>>=_, _>>_, rule, readMany, vertexAt, boxAt, goodBox, readBox}
+use Rattle.job.specs.Reading.{Read, refused, good, _>>=_, _>>_, rule, readMany, vertexAt, boxAt, goodSpan, goodBox, readBox}
 use Rattle.job.specs.Structs.{Sized, gridOf, vertexOf, boxOf, vertexStruct, boxStruct, vertexGroup, boxGroup, netGroup}
 use Rattle.marks.specs.Structs.{manyReached}
 use Rattle.marks.specs.Marks.{reached, stopped, answerOf, marksOf, withMarks, andThen}
@@ -147,6 +148,25 @@ pins-place bits g n at m {r} {next} answer e = ends-at next (pins-end bits g n a
 
 -- ---- one box
 
+-- axis by axis
+module _ (g : Grid) (b : Box) where
+  -- its layers are wrong
+  pub box-layers : goodSpan (b .layerLow) (b .layerHigh) (g .layers) ≡ false → goodBox g b ≡ false
+  unfolding goodBox
+  box-layers l = rw l
+
+  -- its rows are wrong
+  pub box-rows : goodSpan (b .layerLow) (b .layerHigh) (g .layers) ≡ true → goodSpan (b .rowLow) (b .rowHigh) (g .rows) ≡ false
+      → goodBox g b ≡ false
+  unfolding goodBox
+  box-rows l r = rw (l, r)
+
+  -- its columns decide
+  pub box-columns : goodSpan (b .layerLow) (b .layerHigh) (g .layers) ≡ true → goodSpan (b .rowLow) (b .rowHigh) (g .rows) ≡ true
+      → goodBox g b ≡ goodSpan (b .columnLow) (b .columnHigh) (g .columns)
+  unfolding goodBox
+  box-columns l r = rw (l, r)
+
 module _ (bytes : List ℕ) (g : Grid) (at : ℕ) where
   -- a box that is cut is refused by 2
   pub box-cut : boxGroup bytes at ≡ BoxGroup.Cut → manyReached (at + 38) (readBox (bitsOf bytes) g 0 at) ≡ Reached.Refused 2 at
@@ -163,9 +183,9 @@ module _ (bytes : List ℕ) (g : Grid) (at : ℕ) where
     pub fine : goodBox g (boxOf b) ≡ true → manyReached (at + 38) (readBox (bitsOf bytes) g 0 at) ≡ Reached.At (at + 38)
 
   -- a box that is whole goes by it
-  pub box-rules : (b : BoxStruct) → boxGroup bytes at ≡ BoxGroup.Whole b → BoxRules b
+  pub box-told : (b : BoxStruct) → boxGroup bytes at ≡ BoxGroup.Whole b → BoxRules b
   unfolding boxGroup readBox rule _>>_ manyReached
-  box-rules b e = by (whole (bitsOf bytes) at 38) refl
+  box-told b e = by (whole (bitsOf bytes) at 38) refl
     where
       by : (t : Bool) → whole (bitsOf bytes) at 38 ≡ t → BoxRules b
       by false w = let z : _≡_ {A = ℕ} 0 1 = cc in absurd (omega arith)

@@ -11,7 +11,8 @@ use Rattle.job.specs.Lists.{all}
 use Rattle.job.specs.Grid.{Grid, Vertex, vertices, vertexNumber, inside, nextHigh, runHigh}
 use Rattle.job.specs.Structs.{strideOf}
 use Rattle.marks.specs.Marks.{markAll, markEvery, InMarks}
-use Rattle.job.proofs.Grids.{both, next-layer, number-next, number-below}
+use Rattle.job.proofs.Tests.{and-holds}
+use Rattle.job.proofs.Grids.{next-layer, number-next, number-below}
 
 -- marking a run is marking a stride apart
 pub mark-every : (g : Grid) (v : Vertex) (n : ℕ) (m : List ℕ)
@@ -26,6 +27,6 @@ pub in-marks : (g : Grid) (v : Vertex) (n : ℕ) → vertices g ≤ 16384 → T 
 unfolding all runHigh InMarks
 in-marks g v zero small h = tt
 in-marks g v (suc n) small h =
-    let parts = both (inside g v) (all (inside g) (runHigh g (nextHigh g v) n)) h in
+    let parts = and-holds (inside g v) (all (inside g) (runHigh g (nextHigh g v) n)) .0 h in
     let low = number-below g v (parts .0) in
     (omega arith, rw (number-next g v, ap (strideOf g) (next-layer g v)) at (in-marks g (nextHigh g v) n small (parts .1)))

@@ -33,16 +33,16 @@ pub told-refused-job : {r : Read Job} {x : JobRead} {marks : List ℕ} (n p : �
 told-refused-job {r} n p e same = (same ∙ ap jobRead (sym e), λ j h. let z : _≡_ {A = ℕ} 0 1 = cc in absurd (omega arith))
 
 -- reading the lines answered a refusal, or the lines
-lines-refused : (end : ℕ) (r : Read (List Layer)) (x : LayersRead) (n p : ℕ) → x ≡ layersRead end r → x .reached ≡ Reached.Refused n p → r ≡ refused n p
+layers-refused : (end : ℕ) (r : Read (List Layer)) (x : LayersRead) (n p : ℕ) → x ≡ layersRead end r → x .reached ≡ Reached.Refused n p → r ≡ refused n p
 unfolding layersRead
-lines-refused end (refused m q) x n p e h = let same = ap (λ (y : LayersRead). y .reached) e in cc
-lines-refused end (good ls) x n p e h = let same = ap (λ (y : LayersRead). y .reached) e in let z : _≡_ {A = ℕ} 0 1 = cc in absurd (omega arith)
+layers-refused end (refused m q) x n p e h = let same = ap (λ (y : LayersRead). y .reached) e in cc
+layers-refused end (good ls) x n p e h = let same = ap (λ (y : LayersRead). y .reached) e in let z : _≡_ {A = ℕ} 0 1 = cc in absurd (omega arith)
 
-lines-good : (end : ℕ) (r : Read (List Layer)) (x : LayersRead) (at : ℕ) → x ≡ layersRead end r → x .reached ≡ Reached.At at
+layers-good : (end : ℕ) (r : Read (List Layer)) (x : LayersRead) (at : ℕ) → x ≡ layersRead end r → x .reached ≡ Reached.At at
     → (ls : List Layer) × (r ≡ good ls) × (x .layers ≡ layersOf ls)
 unfolding layersRead
-lines-good end (refused m q) x at e h = let same = ap (λ (y : LayersRead). y .reached) e in let z : _≡_ {A = ℕ} 0 1 = cc in absurd (omega arith)
-lines-good end (good ls) x at e h = (ls, refl, ap (λ (y : LayersRead). y .layers) e)
+layers-good end (refused m q) x at e h = let same = ap (λ (y : LayersRead). y .reached) e in let z : _≡_ {A = ℕ} 0 1 = cc in absurd (omega arith)
+layers-good end (good ls) x at e h = (ls, refl, ap (λ (y : LayersRead). y .layers) e)
 
 -- as many obstacles and nets are read as the head says
 rest-lengths : (bits : List ℕ) (head : Head) (rest : List Obstacle × List Net) → readRest bits head ≡ good rest
@@ -75,7 +75,7 @@ module _ (bits : List ℕ) (h : HeadStruct) {x : LayersRead}
   -- a layer line is refused
   pub lines-refused-job : (n p : ℕ) → x .reached ≡ Reached.Refused n p → readAfterHead bits (headOf h) ≡ refused n p
   unfolding _>>=_
-  lines-refused-job n p e = rw (rest-of-job bits (headOf h), lines-refused _ _ x n p lines e)
+  lines-refused-job n p e = rw (rest-of-job bits (headOf h), layers-refused _ _ x n p lines e)
 
   module _ (m : List ℕ) (at : ℕ) (there : x .reached ≡ Reached.At at) (small : vertices (gridOf (h .grid)) ≤ 16384)
       (bare : Marks (gridOf (h .grid)) [] [] m) where
@@ -83,7 +83,7 @@ module _ (bits : List ℕ) (h : HeadStruct) {x : LayersRead}
     rest-job : (r : Read (List Obstacle × List Net)) → readRest bits (headOf h) ≡ r
         → (ls : List Layer) × (x .layers ≡ layersOf ls) × (readAfterHead bits (headOf h) ≡ _>>=_ r (λ rest. good (jobFrom (headOf h) ls rest)))
     rest-job r f =
-        let ls = lines-good _ _ x at lines there in
+        let ls = layers-good _ _ x at lines there in
         (ls .0, ls .2, after-lines bits (headOf h) (ls .0) r (ls .1) f)
 
     -- an obstacle, a net or the tail is refused

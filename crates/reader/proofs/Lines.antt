@@ -2,7 +2,7 @@
 --     eight-more, lines-more         one line more, at its layer
 --     largest-turn, largest-done     the largest in an array, one by one
 --     largest-lines, eight-length    the array's largest and length
---     ahead, many-refused, many-more what was read, ahead of what is still to be read
+--     ahead, ahead-refused, ahead-more what was read, ahead of what is still to be read
 --     layer-refused, layer-good      what reading one line answered
 --     LinesRead and its laws         the lines read so far, in a loop over the layers
 --     layer-cut, LineRules           the rules of one line, way out by way out
@@ -102,14 +102,14 @@ ahead done (good xs) = good (done ++ xs)
 
 module _ {A : Type 0} (width : ℕ) (read : (after at : ℕ) → Read A) (left at : ℕ) (done : List A) where
   -- a group that is refused ends the reading
-  pub many-refused : (n p : ℕ) → read left at ≡ refused n p → ahead done (readMany width read (suc left) at) ≡ refused n p
+  pub ahead-refused : (n p : ℕ) → read left at ≡ refused n p → ahead done (readMany width read (suc left) at) ≡ refused n p
   unfolding ahead readMany _>>=_
-  many-refused n p e = rw (e, readMany)
+  ahead-refused n p e = rw (e, readMany)
 
   -- a group that is good is ahead of the rest
-  pub many-more : (x : A) → read left at ≡ good x → ahead done (readMany width read (suc left) at) ≡ ahead (done ++ (x ∷ [])) (readMany width read left (at + width))
+  pub ahead-more : (x : A) → read left at ≡ good x → ahead done (readMany width read (suc left) at) ≡ ahead (done ++ (x ∷ [])) (readMany width read left (at + width))
   unfolding ahead readMany _>>=_
-  many-more x e = rw (e, readMany) (rest (readMany width read left (at + width)))
+  ahead-more x e = rw (e, readMany) (rest (readMany width read left (at + width)))
     where
       rest : (r : Read (List A)) → ahead done (_>>=_ r (λ xs. good (x ∷ xs))) ≡ ahead (done ++ (x ∷ [])) r
       rest (refused n p) = refl
@@ -191,7 +191,7 @@ module _ (bits : List ℕ) (count : ℕ) (held : Layers) (layer : ℕ) (so-far :
       → layersRead (80 + 40 * count) (readMany 40 (readLayer bits) count 80) ≡ record { reached = Reached.Refused n p; layers = layersOf [] }
   unfolding layersRead
   lines-refused n p h e =
-      rw (so-far .rest, left-more h, many-refused 40 (readLayer bits) (count - 1 - layer) (80 + 40 * layer) (so-far .done) n p (layer-refused _ n p e))
+      rw (so-far .rest, left-more h, ahead-refused 40 (readLayer bits) (count - 1 - layer) (80 + 40 * layer) (so-far .done) n p (layer-refused _ n p e))
 
   -- this layer's line is good
   pub lines-next : (l : LayerStruct) → count ≤ 8 → layer < count → layerRead (readLayer bits (count - 1 - layer) (80 + 40 * layer)) ≡ LayerRead.Good l
@@ -213,7 +213,7 @@ module _ (bits : List ℕ) (count : ℕ) (held : Layers) (layer : ℕ) (so-far :
         rest =
             so-far .rest
             ∙ ap (λ (n : ℕ). ahead (so-far .done) (readMany 40 (readLayer bits) n (80 + 40 * layer))) (left-more h)
-            ∙ many-more 40 (readLayer bits) (count - 1 - layer) (80 + 40 * layer) (so-far .done) (line .0) (line .1)
+            ∙ ahead-more 40 (readLayer bits) (count - 1 - layer) (80 + 40 * layer) (so-far .done) (line .0) (line .1)
             ∙ ap₂ (λ (n at : ℕ). ahead (so-far .done ++ (line .0 ∷ [])) (readMany 40 (readLayer bits) n at)) fewer further;
       }
 

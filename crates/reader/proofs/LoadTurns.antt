@@ -4,8 +4,8 @@
 --     vertex-fields                                     the numbers of a vertex lie in their fields' ranges
 --     net-head-there, NetThere, net-there               the head of a net, with all that it counts
 --     sets-append                                       storing two runs is storing the first, and the second behind it
---     PinsLeft, pins-begin, pins-turn, pins-end         the loop over the pins: before the first turn, a turn, after the last
---     BoxesLeft, boxes-begin, boxes-turn, boxes-end     the loop over the boxes
+--     PinsToLoad, pins-begin, pins-turn, pins-end         the loop over the pins: before the first turn, a turn, after the last
+--     BoxesToLoad, boxes-begin, boxes-turn, boxes-end     the loop over the boxes
 use Prim.Native.Nat.{ℕ, suc, _+_, _-_, _*_, _≤_, _<_}
 use mathlib.Core.Path.{_≡_, refl, sym, _∙_}
 use mathlib.Core.List.{List, [], _∷_, _++_}
@@ -117,22 +117,22 @@ sets-append l i (x ∷ xs) ys =
 -- ---- the pins
 
 -- before a turn: so many pins are stored, and storing the rest gives all
-pub record PinsLeft (bits : List ℕ) (g : Grid) (count from : ℕ) (first pins : List ℕ) (at pin : ℕ) : Type 0 where
+pub record PinsToLoad (bits : List ℕ) (g : Grid) (count from : ℕ) (first pins : List ℕ) (at pin : ℕ) : Type 0 where
   pub within : pin ≤ count
   pub place : at ≡ from + 19 * pin
   pub stored : sets first 0 (pinNumbers bits g count from) ≡ sets pins pin (pinNumbers bits g (count - pin) at)
 
 -- before the first turn no pin is stored
-pub pins-begin : (bits : List ℕ) (g : Grid) (count from : ℕ) (pins : List ℕ) → PinsLeft bits g count from pins pins from 0
+pub pins-begin : (bits : List ℕ) (g : Grid) (count from : ℕ) (pins : List ℕ) → PinsToLoad bits g count from pins pins from 0
 pins-begin bits g count from pins =
     let all : count - 0 ≡ count = omega arith in
     record { within = omega arith; place = omega arith; stored = rw all }
 
 -- a turn stores the number of the vertex that stands there
 pub pins-turn : {bits : List ℕ} {g : Grid} {count from : ℕ} {first pins : List ℕ} {at pin : ℕ} → pin < count
-    → PinsLeft bits g count from first pins at pin
+    → PinsToLoad bits g count from first pins at pin
     → {v : VertexStruct} {number : ℕ} → v ≡ vertexStruct (vertexAt bits at) → number ≡ vertexNumber g (vertexOf v)
-    → PinsLeft bits g count from first (set pins pin number) (at + 19) (pin + 1)
+    → PinsToLoad bits g count from first (set pins pin number) (at + 19) (pin + 1)
 unfolding pinNumbers
 pins-turn {count = count} {pin = pin} more h told numbered =
     let rest : count - pin ≡ suc (count - suc pin) = omega arith in
@@ -140,27 +140,27 @@ pins-turn {count = count} {pin = pin} more h told numbered =
 
 -- after the last turn all pins are stored
 pub pins-end : {bits : List ℕ} {g : Grid} {count from : ℕ} {first pins : List ℕ} {at pin : ℕ} → count ≤ pin
-    → PinsLeft bits g count from first pins at pin → pins ≡ sets first 0 (pinNumbers bits g count from)
+    → PinsToLoad bits g count from first pins at pin → pins ≡ sets first 0 (pinNumbers bits g count from)
 unfolding pinNumbers
 pins-end {count = count} {pin = pin} done h = let none : count - pin ≡ 0 = omega arith in sym (rw none at (h .stored))
 
 -- ---- the boxes
 
 -- before a turn: storing the boxes that are left gives all
-pub record BoxesLeft (bits : List ℕ) (count from : ℕ) (start boxes : List ℕ) (at first left : ℕ) : Type 0 where
+pub record BoxesToLoad (bits : List ℕ) (count from : ℕ) (start boxes : List ℕ) (at first left : ℕ) : Type 0 where
   pub room : first + 6 * left ≡ 6 * count
   pub place : at + 38 * left ≡ from + 38 * count
   pub stored : sets start 0 (boxesNumbers bits count from) ≡ sets boxes first (boxesNumbers bits left at)
 
 -- before the first turn no box is stored
-pub boxes-begin : (bits : List ℕ) (count from : ℕ) (boxes : List ℕ) → BoxesLeft bits count from boxes boxes from 0 count
+pub boxes-begin : (bits : List ℕ) (count from : ℕ) (boxes : List ℕ) → BoxesToLoad bits count from boxes boxes from 0 count
 boxes-begin bits count from boxes = record { room = omega arith; place = refl; stored = refl }
 
 -- a turn stores the six numbers of the box that stands there
 pub boxes-turn : {bits : List ℕ} {count from : ℕ} {start boxes : List ℕ} {at first left : ℕ} → 0 < left
-    → BoxesLeft bits count from start boxes at first left
+    → BoxesToLoad bits count from start boxes at first left
     → {b : BoxStruct} {after : List ℕ} → b ≡ boxStruct (boxAt bits at) → after ≡ sets boxes first (boxNumbers (boxOf b))
-    → BoxesLeft bits count from start after (at + 38) (first + 6) (left - 1)
+    → BoxesToLoad bits count from start after (at + 38) (first + 6) (left - 1)
 unfolding boxesNumbers boxNumbers
 boxes-turn {bits} {boxes = boxes} {at} {first} {left} more h told put =
     let rest : left ≡ suc (left - 1) = omega arith in
@@ -172,6 +172,6 @@ boxes-turn {bits} {boxes = boxes} {at} {first} {left} more h told put =
 
 -- after the last turn all boxes are stored
 pub boxes-end : {bits : List ℕ} {count from : ℕ} {start boxes : List ℕ} {at first left : ℕ} → left ≤ 0
-    → BoxesLeft bits count from start boxes at first left → boxes ≡ sets start 0 (boxesNumbers bits count from)
+    → BoxesToLoad bits count from start boxes at first left → boxes ≡ sets start 0 (boxesNumbers bits count from)
 unfolding boxesNumbers
 boxes-end {left = left} done h = let none : left ≡ 0 = omega arith in sym (rw none at (h .stored))

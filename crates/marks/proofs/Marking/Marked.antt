@@ -16,7 +16,8 @@ use Rattle.job.specs.Grid.{Grid, Vertex, vertices, inside, same, vertexNumber}
 use Rattle.job.specs.Job.{Obstacle}
 use Rattle.job.specs.Reading.{covered, onObstacle}
 use Rattle.marks.specs.Marks.{markAll, markCovered, markOf, Marks}
-use Rattle.job.proofs.Grids.{both, same-eq, same-refl, number-below, number-inj}
+use Rattle.job.proofs.Tests.{and-holds}
+use Rattle.job.proofs.Grids.{same-eq, same-refl, number-below, number-inj}
 
 -- ---- lists
 
@@ -84,7 +85,7 @@ module _ (g : Grid) (small : vertices g ≤ 16384) where
   unfolding markAll any all
   mark-all [] m w size hs hw = refl
   mark-all (v ∷ vs) m w size hs hw =
-      let parts = both (inside g v) (all (inside g) vs) hs in
+      let parts = and-holds (inside g v) (all (inside g) vs) .0 hs in
       mark-all vs (set m (vertexNumber g v) 1) w (length-set m (vertexNumber g v) 1 ∙ size) (parts .1) hw
       ∙ rw (mark-one m 1 v w size (parts .0) hw) (by (same w v) (any (same w) vs) (getD m (vertexNumber g w) 0))
     where

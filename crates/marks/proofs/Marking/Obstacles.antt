@@ -1,5 +1,5 @@
 -- Reading obstacles with marks follows reading obstacles.
---     obstacle-inside, on-middle            an obstacle that is read is inside; the order of obstacles does not matter
+--     on-middle                             the order of obstacles does not matter
 --     obstacle-follows, obstacles-follow    one obstacle, and many
 use Prim.Native.Nat.{ℕ, zero, suc, _+_, _*_, _≤_}
 use mathlib.Core.Path.{_≡_, refl}
@@ -14,17 +14,7 @@ use Rattle.job.specs.Reading.{Read, refused, good, covered, onObstacle, obstacl
 use Rattle.marks.specs.Marks.{markCovered, markRead, obstaclesFrom, Marks}
 use Rattle.marks.proofs.Marking.Following.{Follows, both-stop, both-go, follows-then, follows-end}
 use Rattle.marks.proofs.Marking.Marked.{any-swap, marks-alike, marks-obstacle}
-use Rattle.marks.proofs.Marking.Rest.{rule-good}
-
--- an obstacle that is read is inside
-obstacle-inside : (bits : List ℕ) (g : Grid) (after at : ℕ) (o : Obstacle) → readObstacle bits g after at ≡ good o
-    → T (all (inside g) (covered g o))
-unfolding readObstacle
-obstacle-inside bits g after at o e =
-    let group = rule-good 2 at (whole bits at 27) _ o e in
-    let fits = rule-good 6 at (all (inside g) (covered g (obstacleAt bits at))) (good (obstacleAt bits at)) o (group .1) in
-    let this : obstacleAt bits at ≡ o = cc in
-    rw this at (fits .0)
+use Rattle.marks.proofs.MarkTurns.{obstacle-told}
 
 -- an obstacle in the middle may as well stand in front
 on-middle : (g : Grid) (xs : List Obstacle) (o : Obstacle) (done : List Obstacle) (v : Vertex)
@@ -47,7 +37,7 @@ module _ (bits : List ℕ) (g : Grid) (small : vertices g ≤ 16384) where
       → Follows (λ o. at + 27) (λ o. Marks g (o ∷ done) pins) (markRead g at m (readObstacle bits g 0 at)) (readObstacle bits g after at)
   unfolding readObstacle
   obstacle-follows after at done pins m marks =
-      mark-follows (readObstacle bits g after at) at done pins m (obstacle-inside bits g after at) marks
+      mark-follows (readObstacle bits g after at) at done pins m (λ o e. obstacle-told bits g after at e .1) marks
 
   -- n obstacles, after those done
   pub obstacles-follow : (n at : ℕ) (done : List Obstacle) (pins : List Vertex) (m : List ℕ) → Marks g done pins m

@@ -1,27 +1,18 @@
 -- Reading in parts: how many were read, and what comes after the head and the layer lines.
 --     then-bind, then-assoc         readings one after the other
---     rule-good                     a rule before a good reading holds
 --     many-length, nets-length      as many are read as were asked for
 --     readRest, rest-of-job        obstacles, nets and tail, and a job's bits read up to there and then the rest
 use Prim.Native.Nat.{ℕ, zero, suc, _+_}
 use mathlib.Core.Path.{_≡_, refl, ap}
 use mathlib.Core.List.{List, [], _∷_, _++_}
-use mathlib.Core.Bool.{Bool, true, false}
-use native.Mathlib.Omega.{arith}
 use lib.ListN.{length}
-use lib.Dec.{T}
 use Rattle.job.specs.Grid.{Grid, Vertex}
 use Rattle.job.specs.Job.{Obstacle, Net}
-use Rattle.job.specs.Reading.{Read, refused, good, _>>=_, _>>_, rule, Head, readLayer, readMany, readObstacle, readNet, netWidth, readNets}
+use Rattle.job.specs.Reading.{Read, refused, good, _>>=_, _>>_, Head, readLayer, readMany, readObstacle, readNet, netWidth, readNets}
+use Rattle.job.proofs.Binds.{bind-good}
 use Rattle.job.specs.Reading.{netsWidth, readTail, obstaclesAt, netsAt, readAfterHead}
 
 module _ {A B : Type 0} where
-  -- a reading that is good was good in its first part, and then in the rest
-  bind-good : (read : Read A) (rest : A → Read B) (b : B) → _>>=_ read rest ≡ good b → (a : A) × (read ≡ good a) × (rest a ≡ good b)
-  unfolding _>>=_
-  bind-good (refused n p) rest b e = let z : _≡_ {A = ℕ} 0 1 = cc in absurd (omega arith)
-  bind-good (good a) rest b e = (a, refl, e)
-
   -- what is read and not looked at
   pub then-bind : (read : Read A) (rest : Read B) → _>>_ read rest ≡ _>>=_ read (λ a. rest)
   unfolding _>>=_ _>>_
@@ -41,21 +32,14 @@ module _ {A B : Type 0} where
   bind-assoc (refused n p) rest last = refl
   bind-assoc (good a) rest last = refl
 
--- a rule before a good reading holds
-pub rule-good : {A : Type 0} (n p : ℕ) (holds : Bool) (read : Read A) (a : A) → _>>_ (rule n p holds) read ≡ good a
-    → T holds × (read ≡ good a)
-unfolding rule _>>_
-rule-good n p true read a e = (tt, e)
-rule-good n p false read a e = let z : _≡_ {A = ℕ} 0 1 = cc in absurd (omega arith)
-
 -- as many groups are read as were asked for
 pub many-length : {A : Type 0} (width : ℕ) (read : (after at : ℕ) → Read A) (n at : ℕ) (xs : List A)
     → readMany width read n at ≡ good xs → length xs ≡ n
 unfolding readMany
 many-length width read zero at xs e = let none : xs ≡ [] = cc in rw none
 many-length {A} width read (suc n) at xs e =
-    let first = bind-good (read n at) _ xs e in
-    let others = bind-good (readMany width read n (at + width)) (λ (ys : List A). good (first .0 ∷ ys)) xs (first .2) in
+    let first = bind-good (read n at) _ xs .0 e in
+    let others = bind-good (readMany width read n (at + width)) (λ (ys : List A). good (first .0 ∷ ys)) xs .0 (first .2) in
     let whole : xs ≡ first .0 ∷ others .0 = cc in
     rw whole (ap suc (many-length width read n (at + width) (others .0) (others .1)))
 
@@ -65,10 +49,10 @@ pub nets-length : (bits : List ℕ) (g : Grid) (obstacles : List Obstacle) (earl
 unfolding readNets
 nets-length bits g obstacles earlier zero at nets e = let none : nets ≡ [] = cc in rw none
 nets-length bits g obstacles earlier (suc n) at nets e =
-    let first = bind-good (readNet bits g obstacles earlier at) _ nets e in
+    let first = bind-good (readNet bits g obstacles earlier at) _ nets .0 e in
     let net = first .0 in
     let more = readNets bits g obstacles (net .pins ++ earlier) n (at + netWidth net) in
-    let others = bind-good more (λ (ns : List Net). good (net ∷ ns)) nets (first .2) in
+    let others = bind-good more (λ (ns : List Net). good (net ∷ ns)) nets .0 (first .2) in
     let whole : nets ≡ first .0 ∷ others .0 = cc in
     rw whole (ap suc (nets-length bits g obstacles (net .pins ++ earlier) n (at + netWidth net) (others .0) (others .1)))
 

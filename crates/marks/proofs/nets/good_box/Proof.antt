@@ -1,8 +1,9 @@
--- `job::nets::good_box` meets its contract.
+-- `marks::nets::good_box` meets its contract: each way out is decided by one axis.
 use mathlib.Core.Path.{sym, _∙_}
 use borrow.Author.Needs.{needs}
 use borrow.Author.Tests.{not-true, not-false}
-use Rattle.job.specs.Reading.{goodBox}
+use Rattle.job.specs.Structs.{gridOf, boxOf}
+use Rattle.marks.proofs.NetTurns.{box-layers, box-rows, box-columns}
 use Rattle.marks.proofs.nets.good_box.Statement.{statement}
 use Rattle.marks.proofs.nets.good_box.Tie as tie
 
@@ -10,31 +11,28 @@ good-span-requires : tie.Need-good-span-requires
 good-span-requires c κs = search needs
 
 returns : tie.Need-returns
-unfolding goodBox
-returns c = rw (sym (c .before .good-span .ensures) ∙ not-true _ (c .if1 .taken))
+returns c =
+    sym (box-layers (gridOf (c .before .before .args .grid)) (boxOf (c .before .before .args .b))
+    (sym (c .before .good-span .ensures) ∙ not-true _ (c .if1 .taken)))
 
 good-span-requires-2 : tie.Need-good-span-requires-2
 good-span-requires-2 c κs = search needs
 
 returns-2 : tie.Need-returns-2
-unfolding goodBox
 returns-2 c =
-    rw (
-      sym (c .before .before .before .good-span .ensures) ∙ not-false _ (c .before .before .if1 .left),
-      sym (c .before .good-span2 .ensures) ∙ not-true _ (c .if2 .taken),
-    )
+    sym (box-rows (gridOf (c .before .before .before .before .args .grid)) (boxOf (c .before .before .before .before .args .b))
+    (sym (c .before .before .before .good-span .ensures) ∙ not-false _ (c .before .before .if1 .left))
+    (sym (c .before .good-span2 .ensures) ∙ not-true _ (c .if2 .taken)))
 
 good-span-requires-3 : tie.Need-good-span-requires-3
 good-span-requires-3 c κs = search needs
 
 returns-3 : tie.Need-returns-3
-unfolding goodBox
 returns-3 c =
-    rw (
-      sym (c .before .before .before .before .good-span .ensures) ∙ not-false _ (c .before .before .before .if1 .left),
-      sym (c .before .before .good-span2 .ensures) ∙ not-false _ (c .before .if2 .left),
-    )
-    (c .good-span3 .ensures)
+    c .good-span3 .ensures
+    ∙ sym (box-columns (gridOf (c .before .before .before .before .before .args .grid)) (boxOf (c .before .before .before .before .before .args .b))
+    (sym (c .before .before .before .before .good-span .ensures) ∙ not-false _ (c .before .before .before .if1 .left))
+    (sym (c .before .before .good-span2 .ensures) ∙ not-false _ (c .before .if2 .left)))
 
 pub good-box-spec : {M : Type 1} → statement M
 good-box-spec =

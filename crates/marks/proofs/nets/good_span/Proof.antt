@@ -1,4 +1,4 @@
--- `job::nets::good_span` meets its contract.
+-- `marks::nets::good_span` meets its contract.
 use borrow.Author.Tests.{le-leb, lt-leb}
 use Rattle.job.specs.Reading.{goodSpan}
 use Rattle.marks.proofs.nets.good_span.Statement.{statement}

@@ -1,8 +1,8 @@
--- `job::nets::read_box` meets its contract: cut, against the rule, or read.
+-- `marks::nets::read_box` meets its contract: cut, against the rule, or read.
 use mathlib.Core.Path.{sym, _∙_}
 use borrow.Author.Needs.{needs}
 use borrow.Author.Tests.{not-true, not-false}
-use Rattle.marks.proofs.NetTurns.{box-cut, box-rules}
+use Rattle.marks.proofs.NetTurns.{box-cut, box-told}
 use Rattle.marks.proofs.nets.read_box.Statement.{statement}
 use Rattle.marks.proofs.nets.read_box.Tie as tie
 
@@ -23,7 +23,7 @@ good-box-requires c κs = search needs
 
 returns-2 : tie.Need-returns-2
 returns-2 c =
-    sym (box-rules _ _ _ _ (sym (c .before .before .before .before .before .box-group .ensures) ∙ c .before .before .before .b .given .1) .bad
+    sym (box-told _ _ _ _ (sym (c .before .before .before .before .before .box-group .ensures) ∙ c .before .before .before .b .given .1) .bad
     (sym (c .before .good-box .ensures) ∙ not-true _ (c .if1 .taken)))
 
 add-t8 : tie.Need-add-t8
@@ -31,7 +31,7 @@ add-t8 c = search needs
 
 returns-3 : tie.Need-returns-3
 returns-3 c =
-    sym (box-rules _ _ _ _ (sym (c .before .before .before .before .before .box-group .ensures) ∙ c .before .before .before .b .given .1) .fine
+    sym (box-told _ _ _ _ (sym (c .before .before .before .before .before .box-group .ensures) ∙ c .before .before .before .b .given .1) .fine
     (sym (c .before .good-box .ensures) ∙ not-false _ (c .if1 .left)))
 
 pub read-box-spec : {M : Type 1} → statement M

@@ -1,4 +1,4 @@
--- `job::nets::read_boxes` meets its contract: reading the boxes that are left is reading all of them.
+-- `marks::nets::read_boxes` meets its contract: reading the boxes that are left is reading all of them.
 use mathlib.Core.Path.{sym, _∙_}
 use native.Mathlib.Omega.{arith}
 use borrow.Author.Needs.{needs}

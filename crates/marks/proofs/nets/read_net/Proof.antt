@@ -1,4 +1,4 @@
--- `job::nets::read_net` meets its contract: a head that is cut or against the rule, a pin that is refused, or the boxes' answer.
+-- `marks::nets::read_net` meets its contract: a head that is cut or against the rule, a pin that is refused, or the boxes' answer.
 use mathlib.Core.Path.{sym, _∙_}
 use native.Mathlib.Omega.{arith}
 use borrow.Author.Needs.{needs}

@@ -1,4 +1,4 @@
--- `job::nets::read_nets` meets its contract: reading the nets that are left is reading all of them.
+-- `marks::nets::read_nets` meets its contract: reading the nets that are left is reading all of them.
 use native.Mathlib.Omega.{arith}
 use borrow.Author.Needs.{needs}
 use Rattle.job.specs.Structs.{gridOf}

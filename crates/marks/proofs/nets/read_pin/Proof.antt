@@ -1,4 +1,4 @@
--- `job::nets::read_pin` meets its contract: cut, outside, on an obstacle, on an earlier pin, or read and marked.
+-- `marks::nets::read_pin` meets its contract: cut, outside, on an obstacle, on an earlier pin, or read and marked.
 use mathlib.Core.Path.{sym, _∙_}
 use borrow.Author.Needs.{needs}
 use borrow.Author.Tests.{not-true, not-false}

@@ -1,4 +1,4 @@
--- `job::nets::read_pins` meets its contract: reading the pins that are left is reading all of them.
+-- `marks::nets::read_pins` meets its contract: reading the pins that are left is reading all of them.
 use native.Mathlib.Omega.{arith}
 use borrow.Author.Needs.{needs}
 use Rattle.bits.specs.Bits.{bitsOf}

@@ -1,4 +1,4 @@
--- `job::obstacles::mark_obstacle` meets its contract: the vertices of a run stand a stride apart.
+-- `marks::obstacles::mark_obstacle` meets its contract: the vertices of a run stand a stride apart.
 use mathlib.Core.Path.{sym}
 use native.Mathlib.Omega.{arith}
 use Rattle.job.specs.Reading.{covered}

@@ -1,4 +1,4 @@
--- `job::obstacles::mark_run` meets its contract: marking what is left from here gives what marking the whole run gives.
+-- `marks::obstacles::mark_run` meets its contract: marking what is left from here gives what marking the whole run gives.
 use mathlib.Core.Path.{_≡_, refl, sym, _∙_}
 use native.Mathlib.Omega.{arith}
 use Rattle.marks.specs.Marks.{markEvery, InMarks}

@@ -1,4 +1,4 @@
--- `job::obstacles::obstacle_inside` meets its contract: the first vertex is inside, and its track has room for the run.
+-- `marks::obstacles::obstacle_inside` meets its contract: the first vertex is inside, and its track has room for the run.
 use borrow.Author.Needs.{needs}
 use mathlib.Core.Path.{_≡_, sym, _∙_}
 use mathlib.Core.Bool.{true}

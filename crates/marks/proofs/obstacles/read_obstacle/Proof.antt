@@ -1,4 +1,4 @@
--- `job::obstacles::read_obstacle` meets its contract: a cut group, an obstacle that is not all inside, and one that is.
+-- `marks::obstacles::read_obstacle` meets its contract: a cut group, an obstacle that is not all inside, and one that is.
 use borrow.Author.Needs.{needs}
 use mathlib.Core.Path.{sym, _∙_}
 use borrow.Author.Tests.{not-true, not-false}

@@ -1,4 +1,4 @@
--- `job::obstacles::read_obstacles` meets its contract: reading what is left from here gives what reading them all gives.
+-- `marks::obstacles::read_obstacles` meets its contract: reading what is left from here gives what reading them all gives.
 use borrow.Author.Needs.{needs}
 use Prim.Native.Nat.{_+_, _*_}
 use mathlib.Core.Path.{_≡_, refl, sym, ap, _∙_}

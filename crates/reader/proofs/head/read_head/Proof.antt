@@ -1,4 +1,4 @@
--- `job::head::read_head` meets its contract: what the group of the head holds decides each rule.
+-- `reader::head::read_head` meets its contract: what the group of the head holds decides each rule.
 use borrow.Author.Needs.{needs}
 use borrow.Author.Tests.{eq-eqb, ne-eqb, le-leb, lt-leb}
 use mathlib.Core.Path.{_≡_, sym, ap, _∙_}

@@ -1,4 +1,4 @@
--- `job::layers::largest_least` meets its contract: the largest so far and the largest of what is left make the largest of all.
+-- `reader::layers::largest_least` meets its contract: the largest so far and the largest of what is left make the largest of all.
 use Prim.Native.Nat.{_-_, _<_, _≤_, max}
 use mathlib.Core.Path.{_≡_, sym, _∙_}
 use mathlib.Core.Logic.{⊎-elim}

@@ -1,4 +1,4 @@
--- `job::layers::no_layers` meets its contract.
+-- `reader::layers::no_layers` meets its contract.
 use mathlib.Core.Path.{refl}
 use Rattle.reader.specs.Structs.{layersOf, eight}
 use Rattle.reader.proofs.layers.no_layers.Statement.{statement}

@@ -1,4 +1,4 @@
--- `job::layers::read_layer` meets its contract: each way out is one of the line's rules.
+-- `reader::layers::read_layer` meets its contract: each way out is one of the line's rules.
 use mathlib.Core.Path.{sym, _∙_}
 use borrow.Author.Needs.{needs}
 use borrow.Author.Tests.{not-true, not-false}

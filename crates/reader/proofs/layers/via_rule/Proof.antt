@@ -1,4 +1,4 @@
--- `job::layers::via_rule` meets its contract.
+-- `reader::layers::via_rule` meets its contract.
 use borrow.Author.Tests.{eq-eqb, ne-eqb}
 use Rattle.job.specs.Reading.{viaRule}
 use Rattle.reader.proofs.layers.via_rule.Statement.{statement}

@@ -1,4 +1,4 @@
--- `job::layers::with_line` meets its contract.
+-- `reader::layers::with_line` meets its contract.
 use mathlib.Core.Path.{refl}
 use borrow.Author.Needs.{needs}
 use Rattle.reader.specs.Structs.{withLine}

@@ -1,14 +1,14 @@
--- `job::load::load_boxes` meets its contract. The loop's invariant: the boxes stored so far, then the numbers of those that are left, are all boxes.
+-- `reader::load::load_boxes` meets its contract. The loop's invariant: the boxes stored so far, then the numbers of those that are left, are all boxes.
 -- The measure is the number of boxes that are left.
 use borrow.Author.Needs.{needs}
 use native.Mathlib.Omega.{arith}
 use Rattle.bits.specs.Bits.{bitsOf}
-use Rattle.reader.proofs.LoadTurns.{box-uncut, box-told, BoxesLeft, boxes-begin, boxes-turn, boxes-end}
+use Rattle.reader.proofs.LoadTurns.{box-uncut, box-told, BoxesToLoad, boxes-begin, boxes-turn, boxes-end}
 use Rattle.reader.proofs.load.load_boxes.Statement.{statement}
 use Rattle.reader.proofs.load.load_boxes.Tie as tie
 
 abbrev Inv-loop : tie.InvT-loop
-Inv-loop s count from boxes₀ at₀ first₀ left₀ boxes at first left = BoxesLeft (bitsOf s) count from boxes₀ boxes at first left
+Inv-loop s count from boxes₀ at₀ first₀ left₀ boxes at first left = BoxesToLoad (bitsOf s) count from boxes₀ boxes at first left
 
 abbrev μ-loop : tie.MeasureT-loop
 μ-loop s count from boxes₀ at₀ first₀ left₀ boxes at first left = left

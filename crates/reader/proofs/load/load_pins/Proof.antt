@@ -1,4 +1,4 @@
--- `job::load::load_pins` meets its contract. The loop's invariant: the pins stored so far, then the numbers of those that are left, are all pins.
+-- `reader::load::load_pins` meets its contract. The loop's invariant: the pins stored so far, then the numbers of those that are left, are all pins.
 -- The measure is the number of pins that are left.
 use borrow.Author.Needs.{needs}
 use Prim.Native.Nat.{_-_}
@@ -7,12 +7,12 @@ use native.Mathlib.Omega.{arith}
 use Rattle.bits.specs.Bits.{bitsOf}
 use Rattle.job.specs.Structs.{gridOf, vertexStruct}
 use Rattle.job.specs.Reading.{vertexAt}
-use Rattle.reader.proofs.LoadTurns.{vertex-uncut, vertex-told, vertex-fields, PinsLeft, pins-begin, pins-turn, pins-end}
+use Rattle.reader.proofs.LoadTurns.{vertex-uncut, vertex-told, vertex-fields, PinsToLoad, pins-begin, pins-turn, pins-end}
 use Rattle.reader.proofs.load.load_pins.Statement.{statement}
 use Rattle.reader.proofs.load.load_pins.Tie as tie
 
 abbrev Inv-loop : tie.InvT-loop
-Inv-loop s grid count from pins₀ at₀ pin₀ pins at pin = PinsLeft (bitsOf s) (gridOf grid) count from pins₀ pins at pin
+Inv-loop s grid count from pins₀ at₀ pin₀ pins at pin = PinsToLoad (bitsOf s) (gridOf grid) count from pins₀ pins at pin
 
 abbrev μ-loop : tie.MeasureT-loop
 μ-loop s grid count from pins₀ at₀ pin₀ pins at pin = count - pin

@@ -1,4 +1,4 @@
--- `job::tail::read_tail` meets its contract: where fewer than eight bits are left, the field of all of them says whether they are zero.
+-- `reader::tail::read_tail` meets its contract: where fewer than eight bits are left, the field of all of them says whether they are zero.
 use Prim.Native.Nat.{ℕ, _-_, _*_, _≤_, _<_}
 use borrow.Author.Needs.{needs}
 use borrow.Author.Tests.{lt-ltb, le-ltb, eq-eqb, ne-eqb}

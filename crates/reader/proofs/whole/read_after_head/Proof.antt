@@ -1,4 +1,4 @@
--- `job::whole::read_after_head` meets its contract: a layer line is refused, something after the lines is, or the job is good.
+-- `reader::whole::read_after_head` meets its contract: a layer line is refused, something after the lines is, or the job is good.
 use mathlib.Core.Path.{sym, _∙_}
 use borrow.Author.Needs.{needs}
 use Rattle.marks.proofs.Marking.{bare-marks}

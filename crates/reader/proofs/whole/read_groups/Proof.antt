@@ -1,4 +1,4 @@
--- `job::whole::read_groups` meets its contract: the obstacles are refused, the nets are, or the tail is read.
+-- `reader::whole::read_groups` meets its contract: the obstacles are refused, the nets are, or the tail is read.
 use mathlib.Core.Path.{sym, _∙_}
 use native.Mathlib.Omega.{arith}
 use borrow.Author.Needs.{needs}

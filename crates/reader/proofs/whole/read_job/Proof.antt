@@ -1,4 +1,4 @@
--- `job::whole::read_job` meets its contract: the bytes are too many, the head is refused, or what follows it decides.
+-- `reader::whole::read_job` meets its contract: the bytes are too many, the head is refused, or what follows it decides.
 use mathlib.Core.Path.{sym, _∙_}
 use borrow.Author.Needs.{needs}
 use Rattle.reader.proofs.AfterHead.{told-refused-job}

@@ -1,4 +1,4 @@
--- `job::whole::refused_job` meets its contract.
+-- `reader::whole::refused_job` meets its contract.
 use borrow.Author.Needs.{needs}
 use Rattle.reader.specs.Structs.{jobRead, noHead}
 use Rattle.reader.proofs.whole.refused_job.Statement.{statement}
