@@ -1,6 +1,7 @@
 -- Laws of the grid.
 --     same-eq, same-refl             the test for the same vertex passes at equal vertices alone
---     number-below, number-inj       a vertex number is below the number of vertices, and says its vertex
+--     below-number, number-below     a vertex number is below the number of vertices
+--     number-inj                     it says its vertex
 --     next-layer, number-next        a step high keeps the layer and adds the stride
 --     roomHigh, all-inside           a run is inside where its first vertex is and the track has room
 use Prim.Native.Nat.{ℕ, zero, suc, _+_, _-_, _*_, _/_, _%_, _≤_, _<_}
@@ -55,10 +56,14 @@ same-refl v = simp (eq-eqb (v .layer) (v .layer) refl, eq-eqb (v .row) (v .row) 
 
 -- ---- vertex numbers
 
--- a vertex inside has a number below the number of vertices
-pub number-below : (g : Grid) (v : Vertex) → T (inside g v) → vertexNumber g v < vertices g
+-- a vertex below the sizes has a number below the number of vertices
+pub below-number : (g : Grid) (v : Vertex) → Below g v → vertexNumber g v < vertices g
 unfolding vertexNumber vertices
-number-below g v h = let b = below g v h in digits-lt (digits-lt (b .layer) (b .row)) (b .column)
+below-number g v b = digits-lt (digits-lt (b .layer) (b .row)) (b .column)
+
+-- and so has a vertex inside
+pub number-below : (g : Grid) (v : Vertex) → T (inside g v) → vertexNumber g v < vertices g
+number-below g v h = below-number g v (below g v h)
 
 -- two vertices inside with one number are the same
 pub number-inj : (g : Grid) (v w : Vertex) → T (inside g v) → T (inside g w) → vertexNumber g v ≡ vertexNumber g w → v ≡ w

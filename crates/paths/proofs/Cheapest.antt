@@ -1,0 +1,51 @@
+-- The theorems about cheapest walks that others cite, in one place.
+-- In so many moves:
+--     route-rival, dist-bounds, dist-reached      a route is a rival; `dist` bounds the rivals of so many moves, and is reached
+-- In a lawful system:
+--     shorter                                     every rival has a route of fewer than `size` moves that costs no more
+--     dist-least, nothing                         `dist` is within every rival's cost; where it is infinite there is no rival
+--     table-bounds, table-dist, dist-table        no rival costs less than a table says; a table is `dist`, and `dist` is a table
+--     follow-route, follow-first, follow-short    following a table is a route at its cost, the first of them, of fewer than `size` moves
+--     follow-same, follow-dist                    tables that agree are followed alike, so a table is followed as `dist` is
+--     route-cost, cost-fits                       what a route costs at most
+-- From numbered starts:
+--     start-least, start-none                     no rival from a start costs less than the best; where no start is best there is no rival
+--     start-dist                                  a table has the best start that `dist` has
+--     start-first, start-taken, taken-only        following a table from the best start is the join that is taken, and the only one
+-- Orders of move lists and of joins:
+--     before-irrefl, before-trans, before-total, ahead-irrefl, ahead-trans, ahead-total
+-- Not here: one move of `follow` (Following, Lowest), what `best` chooses (Starts), the order of costs (Costs).
+use Prim.Native.Nat.{ℕ, _*_, _<_}
+use native.Mathlib.Omega.{arith}
+use mathlib.Core.Path.{_≡_}
+use mathlib.Core.List.{List}
+use Rattle.paths.specs.Systems.{System, Lawful}
+use Rattle.paths.specs.Rivals.{Rival}
+use Rattle.paths.specs.Distances.{Cost, fin, inf, within, dist, Table, follow}
+pub use Rattle.paths.proofs.Routes.{route-rival, route-cost}
+pub use Rattle.paths.proofs.Reach.{dist-bounds, dist-reached}
+pub use Rattle.paths.proofs.Loops.{shorter}
+pub use Rattle.paths.proofs.Tables.{table-bounds, table-dist, dist-table}
+pub use Rattle.paths.proofs.First.{follow-route, follow-first, follow-short}
+pub use Rattle.paths.proofs.Alike.{follow-same}
+pub use Rattle.paths.proofs.Orders.{before-irrefl, before-trans, before-total, ahead-irrefl, ahead-trans, ahead-total}
+pub use Rattle.paths.proofs.Joins.{start-least, start-none, start-dist, start-first, start-taken, taken-only}
+use Rattle.paths.proofs.First.{entry-cost}
+
+module _ {S : System} {Good : S .Place → Type 0} {code : S .Place → ℕ} {size dearest : ℕ} (laws : Lawful S Good code size dearest) where
+  -- no rival, of any length, costs less than dist
+  pub dist-least : {s : S .Place} {ms : List ℕ} {c : ℕ} → Good s → Rival S s ms c → within (dist S size s) (fin c)
+  dist-least good r = table-bounds laws (dist-table laws) good r
+
+  -- where dist is infinite there is no rival
+  pub nothing : {s : S .Place} {ms : List ℕ} {c : ℕ} → Good s → dist S size s ≡ inf → Rival S s ms c → ⊥
+  nothing good e r = rw e at (dist-least good r)
+
+  module _ {D : S .Place → Cost} (T : Table S Good D) where
+    -- a table is followed as dist is
+    pub follow-dist : {s : S .Place} (k : ℕ) → Good s → follow S D k s ≡ follow S (dist S size) k s
+    follow-dist k good = follow-same laws (λ s fine. table-dist laws T fine) T k good
+
+    -- a finite entry is below whatever the dearest price for each place is below
+    pub cost-fits : {s : S .Place} {n : ℕ} (bound : ℕ) → size * dearest < bound → Good s → D s ≡ fin n → n < bound
+    cost-fits bound h good e = omega (arith, entry-cost laws T good e)

@@ -1,0 +1,14 @@
+pub mod Costs
+pub mod Routes
+pub mod Reach
+pub mod Counts
+pub mod Loops
+pub mod Lowest
+pub mod Following
+pub mod Tables
+pub mod First
+pub mod Alike
+pub mod Orders
+pub mod Starts
+pub mod Joins
+pub mod Cheapest

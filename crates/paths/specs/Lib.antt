@@ -1,0 +1,4 @@
+pub mod Systems
+pub mod Rivals
+pub mod Distances
+pub mod Starts

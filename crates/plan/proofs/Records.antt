@@ -1,0 +1,46 @@
+-- Every record that routing writes is cheapest: a join has no cheaper rival, and where there is none there is no rival.
+--     cheapest-record      one record that is the join of what stands
+--     routing-cheapest     all of a job's
+use mathlib.Core.Path.{_≡_, refl, sym, subst}
+use mathlib.Core.List.{List, [], _∷_}
+use Rattle.job.specs.Lists.{All}
+use Rattle.job.specs.Job.{Job}
+use Rattle.job.specs.Good.{GoodJob}
+use Rattle.paths.proofs.Cheapest.{route-rival}
+use Rattle.rules.specs.Views.{View, viewOf}
+use Rattle.rules.specs.Prices.{techOf}
+use Rattle.rules.specs.Joins.{Record, join, none, joinOf}
+use Rattle.rules.specs.Routings.{Entry, routing}
+use Rattle.rules.specs.Places.{GoodTech}
+use Rattle.rules.proofs.Techs.{good-tech}
+use Rattle.rules.proofs.Joins.{join-route, join-least, join-none}
+use Rattle.rules.proofs.Entries.{Written, all-written}
+use Rattle.plan.specs.Claim.{CheapestRecord}
+
+module _ {j : Job} (good : GoodJob j) where
+  -- a record that is the join of what stands is cheapest
+  pub cheapest-record : (e : Entry) → Written j e → CheapestRecord j e (e .written)
+  unfolding CheapestRecord
+  cheapest-record e w = subst (CheapestRecord j e) (sym (w .is)) (by (joinOf (techOf j) view (e .before .tree) (e .before .unjoined)) refl)
+    where
+      view : View
+      view = viewOf j (e .net) (e .before .metal)
+
+      tech : GoodTech (techOf j)
+      tech = good-tech good
+
+      by : (r : Record) → joinOf (techOf j) view (e .before .tree) (e .before .unjoined) ≡ r → CheapestRecord j e r
+      by (join s ms c) is =
+          let route = join-route tech view (w .apart) is in
+          (record { onTree = route .onTree; walks = route-rival (route .walks) }, λ s′ ms′ c′ rival. join-least tech view (w .apart) is rival)
+      by none is = λ s ms c rival. join-none tech view (w .apart) is rival
+
+  -- each of several
+  all-cheapest : (es : List Entry) → All (Written j) es → All (λ e. CheapestRecord j e (e .written)) es
+  unfolding All
+  all-cheapest [] h = tt
+  all-cheapest (e ∷ es) h = (cheapest-record e (h .0), all-cheapest es (h .1))
+
+  -- every record of routing is cheapest
+  pub routing-cheapest : All (λ e. CheapestRecord j e (e .written)) (routing j .entries)
+  routing-cheapest = all-cheapest (routing j .entries) (all-written good)

@@ -1,0 +1,4 @@
+pub mod Layout
+pub mod Reading
+pub mod Legal
+pub mod Claim

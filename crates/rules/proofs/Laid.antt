@@ -1,0 +1,138 @@
+-- What a move lays: clear vertices of the grid.
+--     all-append               a claim about two lists, one after the other
+--     Free                     a clear vertex of the grid
+--     run-free, step-free      every vertex of a run beyond one is, and every vertex that a move lays
+use Prim.Native.Nat.{ℕ, zero, suc, _<_}
+use mathlib.Core.Path.{_≡_, refl}
+use mathlib.Core.List.{List, [], _∷_, _++_}
+use mathlib.Core.Bool.{Bool, true, false, cond}
+use lib.ListN.{length}
+use lib.Dec.{eqb}
+use Rattle.job.specs.Lists.{All}
+use Rattle.job.specs.Grid.{Grid, vertices}
+use Rattle.job.specs.Job.{closedPrice}
+use Rattle.paths.specs.Distances.{Cost, fin, inf}
+use Rattle.rules.specs.Tracks.{Entered, outside, at, entered}
+use Rattle.rules.specs.Views.{View}
+use Rattle.rules.specs.Segments.{Direction, low, high, Segment, fresh, running, paid, paidToward, Place, Grown, back, grown}
+use Rattle.rules.specs.Prices.{Tech, entering}
+use Rattle.rules.specs.Overheads.{clear, toward, onFrom, clearRun, Overhead, nothing, lengthened, penalised, forbidden}
+use Rattle.rules.specs.Overheads.{otherwise, lengthenedBy, overheadOf}
+use Rattle.rules.specs.Steps.{Made, Stepped, illegal, legal, leaving, stepping, bySegment, ifPriced, into, step}
+use Rattle.rules.proofs.Neighbours.{entered-below}
+
+-- a claim about two lists, one after the other
+pub all-append : {A : Type 0} (P : A → Type 0) (xs ys : List A) → All P xs → All P ys → All P (xs ++ ys)
+unfolding All
+all-append P [] ys h k = k
+all-append P (x ∷ xs) ys h k = (h .0, all-append P xs ys (h .1) k)
+
+-- a clear vertex of the grid
+pub record Free (g : Grid) (view : View) (v : ℕ) : Type 0 where
+  pub onGrid : v < vertices g
+  pub free : clear view v ≡ true
+
+-- every vertex of a run beyond a vertex of the grid
+run-free : (g : Grid) (view : View) (d : Direction) (k : ℕ) {v : ℕ} → v < vertices g → All (Free g view) (clearRun g view d k v)
+unfolding clearRun All onFrom
+run-free g view d zero h = tt
+run-free g view d (suc k) {v} h = by (entered g v (toward d)) refl (λ w on. run-free g view d k on)
+  where
+    by : (r : Entered) → entered g v (toward d) ≡ r → ((w : ℕ) → w < vertices g → All (Free g view) (clearRun g view d k w))
+        → All (Free g view) (onFrom view (clearRun g view d k) r)
+    by outside e rest = tt
+    by (at w) e rest = clearly (clear view w) refl
+      where
+        on : w < vertices g
+        on = entered-below g (toward d) h e
+
+        clearly : (b : Bool) → clear view w ≡ b → All (Free g view) (elim b [ true ↦ w ∷ clearRun g view d k w | false ↦ [] ])
+        clearly true is = (record { onGrid = on; free = is }, rest w on)
+        clearly false is = tt
+
+-- what an overhead lays
+laidBy : Overhead → List ℕ
+laidBy nothing = []
+laidBy (lengthened laid) = laid
+laidBy penalised = []
+laidBy forbidden = []
+
+-- what a move lays
+laidIn : Stepped → List ℕ
+laidIn illegal = []
+laidIn (legal made) = made .laid
+
+module _ (t : Tech) (view : View) where
+  abbrev AllFree : List ℕ → Type 0
+  AllFree vs = All (Free (t .grid) view) vs
+
+  -- the area penalty lays nothing
+  otherwise-free : (area : ℕ) → AllFree (laidBy (otherwise area))
+  unfolding otherwise laidBy All
+  otherwise-free area = by (eqb area closedPrice)
+    where
+      by : (b : Bool) → AllFree (laidBy (cond b forbidden penalised))
+      by true = tt
+      by false = tt
+
+  -- an extension lays its run
+  lengthened-free : (missing : ℕ) (run : List ℕ) (else : Overhead) → AllFree run → AllFree (laidBy else) → AllFree (laidBy (lengthenedBy missing run else))
+  unfolding lengthenedBy laidBy
+  lengthened-free missing run else h k = by (eqb (length run) missing)
+    where
+      by : (b : Bool) → AllFree (laidBy (cond b (lengthened run) else))
+      by true = h
+      by false = k
+
+  -- what a via move owes for a segment
+  overhead-free : {v : ℕ} (s : Segment) → v < vertices (t .grid) → AllFree (laidBy (overheadOf t view v s))
+  unfolding overheadOf laidBy All
+  overhead-free fresh h =
+      lengthened-free _ _ _ (run-free (t .grid) view high _ h) (lengthened-free _ _ _ (run-free (t .grid) view low _ h) (otherwise-free _))
+  overhead-free (running d n) h = lengthened-free _ _ _ (run-free (t .grid) view d _ h) (otherwise-free _)
+  overhead-free paid h = tt
+  overhead-free (paidToward d) h = tt
+
+  -- a via move lays what its overhead does
+  leaving-free : (v w enter : ℕ) (o : Overhead) → AllFree (laidBy o) → AllFree (laidIn (leaving t v w enter o))
+  unfolding leaving laidBy laidIn All
+  leaving-free v w enter nothing h = h
+  leaving-free v w enter (lengthened laid) h = h
+  leaving-free v w enter penalised h = h
+  leaving-free v w enter forbidden h = h
+
+  -- a step lays nothing
+  stepping-free : (w enter : ℕ) (r : Grown) → AllFree (laidIn (stepping w enter r))
+  unfolding stepping laidIn All
+  stepping-free w enter back = tt
+  stepping-free w enter (grown s) = tt
+
+  -- any move
+  segment-free : (p : Place) (m w enter : ℕ) → p .vertex < vertices (t .grid) → AllFree (laidIn (bySegment t view p m w enter))
+  unfolding bySegment
+  segment-free p zero w enter h = stepping-free w enter _
+  segment-free p (suc zero) w enter h = stepping-free w enter _
+  segment-free p (suc (suc m)) w enter h = leaving-free (p .vertex) w enter _ (overhead-free (p .segment) h)
+
+  -- every vertex that a move lays is a clear vertex of the grid
+  stepped-free : (p : Place) (m : ℕ) → p .vertex < vertices (t .grid) → AllFree (laidIn (step t view p m))
+  unfolding step into ifPriced laidIn All
+  stepped-free p m h = by (entered (t .grid) (p .vertex) m)
+    where
+      byPrice : (w : ℕ) (x : Cost) → AllFree (laidIn (ifPriced x (bySegment t view p m w)))
+      byPrice w inf = tt
+      byPrice w (fin n) = segment-free p m w n h
+
+      byBlocked : (w : ℕ) (b : Bool)
+          → AllFree (laidIn (elim b [ true ↦ illegal | false ↦ ifPriced (entering t view (p .vertex) w m) (bySegment t view p m w) ]))
+      byBlocked w true = tt
+      byBlocked w false = byPrice w (entering t view (p .vertex) w m)
+
+      by : (r : Entered) → AllFree (laidIn (into t view p m r))
+      by outside = tt
+      by (at w) = byBlocked w (view .blocked w)
+
+  -- of a legal move
+  pub step-free : (p : Place) (m : ℕ) {made : Made} → p .vertex < vertices (t .grid) → step t view p m ≡ legal made → AllFree (made .laid)
+  unfolding laidIn
+  step-free p m h e = rw e at (stepped-free p m h)

@@ -1,0 +1,33 @@
+-- The laws of moves and prices.
+--     Vertices       a vertex by its number
+--     Neighbours     the vertex that a move enters
+--     Techs          what a good job says of its layers
+--     Places         codes of good places
+--     Segments       the segment that a move makes, and its overhead
+--     Prices         the price of entering
+--     Moves          a legal move taken apart; what it keeps and costs
+--     Lawful         places and moves satisfy what the laws of cheapest walks ask
+--     Own            a net does not see its own metal
+--     Laid           what a move lays: clear vertices of the grid
+--     Walks          what a route does when its moves are walked
+--     Joins          the join that is computed is the cheapest, and the only one
+--     Members        whether a vertex is in a list
+--     Standing       the tree and the unjoined pins are apart in every standing
+--     Entries        every record that routing writes is the join of what stands
+--     Certificates   a table of costs as data, shown to be a table by a test
+pub mod Vertices
+pub mod Neighbours
+pub mod Techs
+pub mod Places
+pub mod Segments
+pub mod Prices
+pub mod Moves
+pub mod Lawful
+pub mod Own
+pub mod Laid
+pub mod Walks
+pub mod Joins
+pub mod Members
+pub mod Standing
+pub mod Entries
+pub mod Certificates

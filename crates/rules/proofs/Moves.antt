@@ -1,0 +1,80 @@
+-- A legal move leads from a good place to another, at a price from 1 to 197,625.
+--     Went, step-parts     the vertex that a legal move enters, the price of entering it, and what the segment makes of it
+--     step-keeps           the next place is good
+--     step-costs           a move costs at least 1
+--     step-limits          a move costs at most 197,625
+use Prim.Native.Nat.{ℕ, _≤_}
+use mathlib.Core.Path.{_≡_, refl}
+use mathlib.Core.Bool.{Bool, true, false}
+use native.Mathlib.Omega.{arith}
+use Rattle.paths.specs.Systems.{blocked, to}
+use Rattle.paths.specs.Distances.{Cost, fin, inf}
+use Rattle.rules.specs.Tracks.{Entered, outside, at, entered}
+use Rattle.rules.specs.Views.{View}
+use Rattle.rules.specs.Segments.{Place}
+use Rattle.rules.specs.Prices.{Tech, entering}
+use Rattle.rules.specs.Steps.{illegal, bySegment, ifPriced, into, step, priced}
+use Rattle.rules.specs.Places.{GoodPlace, GoodTech}
+use Rattle.rules.proofs.Neighbours.{entered-below}
+use Rattle.rules.proofs.Segments.{no-step, move-led}
+use Rattle.rules.proofs.Prices.{entering-fits}
+
+-- ---- a legal move taken apart
+
+-- what a legal move from p to q enters and pays, and what it does to the segment, at the cost c in all
+pub record Went (t : Tech) (view : View) (p : Place) (m c : ℕ) (q : Place) : Type 0 where
+  pub vertex : ℕ
+  pub enter : ℕ
+  pub enters : entered (t .grid) (p .vertex) m ≡ at vertex
+  pub free : view .blocked vertex ≡ false
+  pub pays : entering t view (p .vertex) vertex m ≡ fin enter
+  pub does : priced (bySegment t view p m vertex enter) ≡ to c q
+
+-- a legal move enters a vertex that is not blocked, at a price of entering that is not closed
+pub step-parts : (t : Tech) (view : View) (p : Place) (m : ℕ) {c : ℕ} {q : Place} → priced (step t view p m) ≡ to c q → Went t view p m c q
+unfolding step into ifPriced priced
+step-parts t view p m {c} {q} e = by (entered (t .grid) (p .vertex) m) refl e
+  where
+    byPrice : (w : ℕ) → entered (t .grid) (p .vertex) m ≡ at w → view .blocked w ≡ false → (x : Cost) → entering t view (p .vertex) w m ≡ x
+        → priced (ifPriced x (bySegment t view p m w)) ≡ to c q → Went t view p m c q
+    byPrice w ew ef inf ex ep = absurd (no-step ep)
+    byPrice w ew ef (fin n) ex ep = record { vertex = w; enter = n; enters = ew; free = ef; pays = ex; does = ep }
+
+    byBlocked : (w : ℕ) → entered (t .grid) (p .vertex) m ≡ at w → (b : Bool) → view .blocked w ≡ b
+        → priced (elim b [ true ↦ illegal | false ↦ ifPriced (entering t view (p .vertex) w m) (bySegment t view p m w) ]) ≡ to c q
+        → Went t view p m c q
+    byBlocked w ew true eb ep = absurd (no-step ep)
+    byBlocked w ew false eb ep = byPrice w ew eb (entering t view (p .vertex) w m) refl ep
+
+    by : (r : Entered) → entered (t .grid) (p .vertex) m ≡ r → priced (into t view p m r) ≡ to c q → Went t view p m c q
+    by outside ew ep = absurd (no-step ep)
+    by (at w) ew ep = byBlocked w ew (view .blocked w) refl ep
+
+-- ---- a legal move
+
+-- the next place is good
+pub step-keeps : {t : Tech} (view : View) (p : Place) (m : ℕ) {c : ℕ} {q : Place} → GoodTech t → GoodPlace t p → priced (step t view p m) ≡ to c q
+    → GoodPlace t q
+step-keeps {t} view p m good h e =
+    let went = step-parts t view p m e in
+    let l = move-led view p m (went .vertex) (went .enter) good (h .vertex) (went .does) in
+    record { vertex = rw (l .vertex) (entered-below (t .grid) m (h .vertex) (went .enters)); segment = l .segment }
+
+-- a move costs from 1 to 197,625
+step-fits : {t : Tech} (view : View) (p : Place) (m : ℕ) {c : ℕ} {q : Place} → GoodTech t → GoodPlace t p → priced (step t view p m) ≡ to c q
+    → (1 ≤ c) × (c ≤ 197625)
+step-fits {t} view p m good h e =
+    let went = step-parts t view p m e in
+    let l = move-led view p m (went .vertex) (went .enter) good (h .vertex) (went .does) in
+    let enter = entering-fits view m good (h .vertex) (went .enters) (went .pays) in
+    omega (arith, l .cost, l .small)
+
+-- a move costs at least 1
+pub step-costs : {t : Tech} (view : View) (p : Place) (m : ℕ) {c : ℕ} {q : Place} → GoodTech t → GoodPlace t p → priced (step t view p m) ≡ to c q
+    → 1 ≤ c
+step-costs view p m good h e = step-fits view p m good h e .0
+
+-- a move costs at most 197,625
+pub step-limits : {t : Tech} (view : View) (p : Place) (m : ℕ) {c : ℕ} {q : Place} → GoodTech t → GoodPlace t p → priced (step t view p m) ≡ to c q
+    → c ≤ 197625
+step-limits view p m good h e = step-fits view p m good h e .1

@@ -1,0 +1,12 @@
+pub mod Tracks
+pub mod Views
+pub mod Segments
+pub mod Prices
+pub mod Overheads
+pub mod Steps
+pub mod Walks
+pub mod Standings
+pub mod Joins
+pub mod Places
+pub mod Routings
+pub mod Maps

@@ -1,0 +1,1 @@
+// The rules of moves and prices: definitions, no code yet.
