@@ -12,7 +12,7 @@ pub mod Groups
 pub mod Heads
 mod Pins
 pub mod Nets
-mod Filled
+pub mod Filled
 mod Jobs
 use Prim.Native.Nat.{ℕ, _+_, _*_, _<_}
 use mathlib.Core.Path.{_≡_, refl}

@@ -1,5 +1,15 @@
 -- The laws of plans.
+--     TwoWay      reading accepts exactly the legal plans
+--     Moves       reading the moves of a join
+--     JoinRead    reading a join after its flag
+--     NetsRead    reading the records of nets
+--     Unjoined    how many pins are unjoined
 --     Records     every record that routing writes is cheapest
 --     Routed      the plan that routing makes of a good job is legal, and cheapest
+pub mod TwoWay
+pub mod Moves
+pub mod JoinRead
+pub mod NetsRead
+pub mod Unjoined
 pub mod Records
 pub mod Routed

@@ -1,69 +1,30 @@
 -- The plan that routing makes of a good job is legal, and every record in it is cheapest.
---     without-shorter          a pin taken out leaves fewer
 --     routing-entries          routing's entries are the nets' in order, each legal against what the earlier ones make
 --     routing-legal            routing's plan is legal
 --     routing-plan-cheapest    and cheapest
-use Prim.Native.Nat.{ℕ, zero, suc, _≤_, _<_}
+use Prim.Native.Nat.{ℕ, zero, suc, _≤_}
 use mathlib.Core.Path.{_≡_, refl, sym, _∙_}
 use mathlib.Core.List.{List, [], _∷_}
-use mathlib.Core.Bool.{Bool, true, false}
 use native.Mathlib.Omega.{arith}
 use lib.ListN.{length}
-use lib.Dec.{eqb}
-use borrow.Author.Tests.{eqb-false, ne-eqb}
-use Rattle.job.specs.Lists.{any, All}
+use Rattle.job.specs.Lists.{All}
 use Rattle.job.specs.Job.{Net, Job}
 use Rattle.job.specs.Good.{GoodJob}
-use Rattle.rules.specs.Views.{member, pinsOf, viewOf}
+use Rattle.rules.specs.Views.{pinsOf, viewOf}
 use Rattle.rules.specs.Prices.{techOf}
 use Rattle.rules.specs.Joins.{Record, join, none, joinOf}
-use Rattle.rules.specs.Standings.{Standing, metalAtFirst, begun, without, joinedBy}
+use Rattle.rules.specs.Standings.{Standing, metalAtFirst, begun, joinedBy}
 use Rattle.rules.specs.Routings.{Totals, noTotals, withJoin, withNet, Routed, withEntry, afterJoin, byRecord, routeNet, routeNets, routing}
 use Rattle.rules.specs.Places.{GoodTech}
 use Rattle.rules.proofs.Techs.{good-tech}
-use Rattle.rules.proofs.Members.{not-both}
 use Rattle.rules.proofs.Walks.{route-walk}
 use Rattle.rules.proofs.Joins.{join-route, join-fits}
 use Rattle.rules.proofs.Standing.{Stands, nets-apart, joined-apart}
 use Rattle.plan.specs.Layout.{planOf}
 use Rattle.plan.specs.Legal.{NetEntries, allJoined, gaveUp, joins, JobEntries, noNets, nextNet, LegalPlan}
 use Rattle.plan.specs.Claim.{Cheapest}
+use Rattle.plan.proofs.Unjoined.{without-shorter, none-left, begun-length}
 use Rattle.plan.proofs.Records.{routing-cheapest}
-
--- ---- how many pins are unjoined
-
--- a pin taken out leaves no more
-without-short : (w : ℕ) (ps : List ℕ) → length (without w ps) ≤ length ps
-unfolding without
-without-short w [] = omega arith
-without-short w (p ∷ ps) = by (eqb p w) (without-short w ps)
-  where
-    by : (b : Bool) → length (without w ps) ≤ length ps
-        → length {A = ℕ} (elim b [ true ↦ without w ps | false ↦ p ∷ without w ps ]) ≤ suc (length ps)
-    by true rest = omega arith
-    by false rest = omega arith
-
--- a pin that is there, taken out, leaves fewer
-pub without-shorter : (w : ℕ) (ps : List ℕ) → member w ps ≡ true → length (without w ps) < length ps
-unfolding member any without
-without-shorter w [] h = absurd (not-both h refl)
-without-shorter w (p ∷ ps) h = by (eqb p w) refl (without-shorter w ps)
-  where
-    by : (b : Bool) → eqb p w ≡ b → (member w ps ≡ true → length (without w ps) < length ps)
-        → length {A = ℕ} (elim b [ true ↦ without w ps | false ↦ p ∷ without w ps ]) < suc (length ps)
-    by true e rest = omega (arith, without-short w ps)
-    by false e rest = omega (arith, rest (rw (ne-eqb w p (λ same. eqb-false p w e (sym same))) at h))
-
--- a list of length 0 is empty
-none-left : (ps : List ℕ) → length ps ≤ 0 → ps ≡ []
-none-left [] h = refl
-none-left (p ∷ ps) h = absurd (omega arith)
-
--- before the first join of a net no more pins are unjoined than it has
-begun-length : (pins : List ℕ) (metal : List (List ℕ)) → length (begun pins metal .unjoined) ≤ length pins
-unfolding begun
-begun-length [] metal = omega arith
-begun-length (first ∷ others) metal = omega arith
 
 -- ---- the entries of a good job
 

@@ -1,8 +1,9 @@
 -- Bits filled up with fewer than eight zero bits.
---     job-below         each of a job's bits is 0 or 1
---     Filled            a list is these bits, then fewer than eight zero bits
---     filled-tail       it is so where they stand first and the tail's rules hold
---     filled-packed     the bits of bytes are so where the bytes are the packed bits
+--     group-below, concat-below     the bits of a group, and of groups one after the other, are each 0 or 1
+--     job-below                     each of a job's bits is 0 or 1
+--     Filled                        a list is these bits, then fewer than eight zero bits
+--     filled-tail                   it is so where they stand first and the tail's rules hold
+--     filled-packed                 the bits of bytes are so where the bytes are the packed bits
 use Prim.Native.Nat.{ℕ, zero, suc, _+_, _-_, _*_, _/_, _<_}
 use native.Mathlib.Omega.{arith}
 use native.Mathlib.Nat.{zero-add}
@@ -23,13 +24,13 @@ unfolding AllBelow
 none-below = tt
 
 -- a group's bits
-group-below : (fs : List (ℕ × ℕ)) → AllBelow 2 (groupBits fs)
+pub group-below : (fs : List (ℕ × ℕ)) → AllBelow 2 (groupBits fs)
 unfolding groupBits
 group-below [] = none-below
 group-below (f ∷ fs) = below-append 2 _ _ (fieldBits-bits (f .0) (f .1)) (group-below fs)
 
 -- the bits of groups one after the other
-concat-below : {A : Type 0} (bits : A → List ℕ) → ((x : A) → AllBelow 2 (bits x)) → (xs : List A) → AllBelow 2 (concatBits bits xs)
+pub concat-below : {A : Type 0} (bits : A → List ℕ) → ((x : A) → AllBelow 2 (bits x)) → (xs : List A) → AllBelow 2 (concatBits bits xs)
 unfolding concatBits
 concat-below bits below [] = none-below
 concat-below bits below (x ∷ xs) = below-append 2 _ _ (below x) (concat-below bits below xs)

@@ -1,0 +1,49 @@
+-- How many pins are unjoined.
+--     without-shorter     a pin taken out leaves fewer
+--     none-left           a list of length 0 is empty
+--     begun-length        before the first join of a net
+use Prim.Native.Nat.{ℕ, suc, _≤_, _<_}
+use mathlib.Core.Path.{_≡_, refl, sym}
+use mathlib.Core.List.{List, [], _∷_}
+use mathlib.Core.Bool.{Bool, true, false}
+use native.Mathlib.Omega.{arith}
+use lib.ListN.{length}
+use lib.Dec.{eqb}
+use borrow.Author.Tests.{eqb-false, ne-eqb}
+use Rattle.job.specs.Lists.{any}
+use Rattle.rules.specs.Views.{member}
+use Rattle.rules.specs.Standings.{begun, without}
+use Rattle.rules.proofs.Members.{not-both}
+
+-- a pin taken out leaves no more
+without-short : (w : ℕ) (ps : List ℕ) → length (without w ps) ≤ length ps
+unfolding without
+without-short w [] = omega arith
+without-short w (p ∷ ps) = by (eqb p w) (without-short w ps)
+  where
+    by : (b : Bool) → length (without w ps) ≤ length ps
+        → length {A = ℕ} (elim b [ true ↦ without w ps | false ↦ p ∷ without w ps ]) ≤ suc (length ps)
+    by true rest = omega arith
+    by false rest = omega arith
+
+-- a pin that is there, taken out, leaves fewer
+pub without-shorter : (w : ℕ) (ps : List ℕ) → member w ps ≡ true → length (without w ps) < length ps
+unfolding member any without
+without-shorter w [] h = absurd (not-both h refl)
+without-shorter w (p ∷ ps) h = by (eqb p w) refl (without-shorter w ps)
+  where
+    by : (b : Bool) → eqb p w ≡ b → (member w ps ≡ true → length (without w ps) < length ps)
+        → length {A = ℕ} (elim b [ true ↦ without w ps | false ↦ p ∷ without w ps ]) < suc (length ps)
+    by true e rest = omega (arith, without-short w ps)
+    by false e rest = omega (arith, rest (rw (ne-eqb w p (λ same. eqb-false p w e (sym same))) at h))
+
+-- a list of length 0 is empty
+pub none-left : (ps : List ℕ) → length ps ≤ 0 → ps ≡ []
+none-left [] h = refl
+none-left (p ∷ ps) h = absurd (omega arith)
+
+-- before the first join of a net no more pins are unjoined than it has
+pub begun-length : (pins : List ℕ) (metal : List (List ℕ)) → length (begun pins metal .unjoined) ≤ length pins
+unfolding begun
+begun-length [] metal = omega arith
+begun-length (first ∷ others) metal = omega arith
