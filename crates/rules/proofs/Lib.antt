@@ -31,3 +31,4 @@ pub mod Members
 pub mod Standing
 pub mod Entries
 pub mod Certificates
+pub mod Fitting

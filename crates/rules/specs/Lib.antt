@@ -10,3 +10,4 @@ pub mod Joins
 pub mod Places
 pub mod Routings
 pub mod Maps
+pub mod Structs

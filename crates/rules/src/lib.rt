@@ -1,1 +1,2 @@
-// The rules of moves and prices: definitions, no code yet.
+// The rules of moves and prices.
+pub mod track;

@@ -1,0 +1,106 @@
+-- Numbers of a vertex that fit a word.
+--     fits              a vertex of a small grid, and the divisors that take it apart
+--     low-by, down-by   what a move low or down takes off is no more than the vertex
+--     enters-none       a number that is no move's
+--     track-read        what the code has read of a vertex and its track
+use Prim.Native.Nat.{ℕ, zero, suc, _+_, _-_, _*_, _≤_, _<_}
+use mathlib.Core.Path.{_≡_, refl, ap, _∙_}
+use mathlib.Core.Bool.{Bool, true, false, cond}
+use native.Mathlib.Nat.{mul-le-mul}
+use native.Mathlib.Omega.{arith}
+use lib.Dec.{ltb}
+use Rattle.job.specs.Grid.{Grid, vertices, stepsColumn}
+use Rattle.job.specs.Structs.{gridOf, vertexOf, vertexStruct, strideOf}
+use Rattle.job.specs.declared.grid.Grid.{Grid as GridStruct}
+use Rattle.job.specs.declared.grid.Vertex.{Vertex as VertexStruct}
+use Rattle.job.proofs.Sizes.{product-within, small-vertices}
+use Rattle.rules.specs.Tracks.{layerOf, vertexBy, trackPlace, trackLength, outside, ifThere, entered}
+use Rattle.rules.specs.Structs.{OnGrid, trackOf}
+use Rattle.rules.specs.declared.track.Track.{Track}
+use Rattle.rules.proofs.Vertices.{vertex-below}
+use Rattle.rules.proofs.Neighbours.{low-enters, down-enters}
+
+pub record VertexFits (g : GridStruct) (v : ℕ) : Type 0 where
+  pub columns : 0 < g .columns
+  pub rows : 0 < g .rows
+  pub some : 0 < g .rows * g .columns
+  pub level : g .rows * g .columns ≤ 65536
+  pub layer : layerOf (gridOf g) v < 8
+  pub vertex : v < 524288
+
+-- a vertex of a small grid, and the divisors that take it apart
+pub fits : (g : GridStruct) (v : ℕ) → OnGrid g v → VertexFits g v
+fits g v on =
+    let b = vertex-below (gridOf g) (on .there) in
+    let columns : 0 < g .columns = omega (arith, b .column) in
+    let rows : 0 < g .rows = omega (arith, b .row) in
+    record {
+      columns = columns;
+      rows = rows;
+      some = product-within (g .rows) (g .columns) rows columns;
+      level = product-within 256 256 (on .small .rows) (on .small .columns);
+      layer = omega (arith, b .layer, on .small .layers);
+      vertex = omega (arith, on .there, small-vertices g (on .small));
+    }
+
+-- a step low takes off no more than the vertex
+pub low-by : (g : GridStruct) (v : ℕ) → OnGrid g v → ltb 0 (trackPlace (gridOf g) v) ≡ true → strideOf (gridOf g) (layerOf (gridOf g) v) ≤ v
+unfolding entered ifThere
+low-by g v on h =
+    let w = v - strideOf (gridOf g) (layerOf (gridOf g) v) in
+    let one = low-enters (gridOf g) {w = w} (on .there) (rw h refl) in
+    let same : strideOf (gridOf g) (layerOf (gridOf g) v) ≡ strideOf (gridOf g) (layerOf (gridOf g) w) = ap (strideOf (gridOf g)) (one .layer) in
+    omega (arith, one .number, same)
+
+-- a move down takes off no more than the vertex
+pub down-by : (g : GridStruct) (v : ℕ) → OnGrid g v → ltb 0 (layerOf (gridOf g) v) ≡ true → g .rows * g .columns ≤ v
+unfolding entered ifThere
+down-by g v on h =
+    let one = down-enters (gridOf g) {w = v - g .rows * g .columns} (on .there) (rw h refl) in
+    omega (arith, one .number)
+
+-- what the code has read of a vertex and its track
+pub record TrackRead (g : GridStruct) (v : ℕ) (from : VertexStruct) (track : Track) : Type 0 where
+  pub layer : from .layer ≡ layerOf (gridOf g) v
+  pub place : track .place ≡ trackPlace (gridOf g) v
+  pub length : track .length ≡ trackLength (gridOf g) v
+  pub stride : track .stride ≡ strideOf (gridOf g) (layerOf (gridOf g) v)
+  pub placeFits : track .place < 256
+  pub strideFits : track .stride ≤ 256
+
+-- a number that is no move's enters nothing
+pub enters-none : (g : Grid) (v number : ℕ) → (number ≡ 0 → ⊥) → (number ≡ 1 → ⊥) → (number ≡ 2 → ⊥) → (number ≡ 3 → ⊥)
+    → entered g v number ≡ outside
+unfolding entered
+enters-none g v zero n0 n1 n2 n3 = absurd (n0 refl)
+enters-none g v (suc zero) n0 n1 n2 n3 = absurd (n1 refl)
+enters-none g v (suc (suc zero)) n0 n1 n2 n3 = absurd (n2 refl)
+enters-none g v (suc (suc (suc zero))) n0 n1 n2 n3 = absurd (n3 refl)
+enters-none g v (suc (suc (suc (suc n)))) n0 n1 n2 n3 = refl
+
+-- a number and 1
+pub one-more : (n : ℕ) → n + 1 ≡ suc n
+one-more n = omega arith
+
+-- a choice of two numbers below a limit is below it
+either-below : (b : Bool) {x y limit : ℕ} → x < limit → y < limit → cond b x y < limit
+either-below true hx hy = hx
+either-below false hx hy = hy
+
+pub track-read : (g : GridStruct) (v : ℕ) {from : VertexStruct} {track : Track} → OnGrid g v → from ≡ vertexStruct (vertexBy (gridOf g) v)
+    → track ≡ trackOf (gridOf g) (vertexOf from) → TrackRead g v from track
+unfolding trackPlace trackLength strideOf
+track-read g v {from} {track} on isFrom isTrack =
+    let whole : track ≡ trackOf (gridOf g) (vertexBy (gridOf g) v) = isTrack ∙ ap (λ (x : VertexStruct). trackOf (gridOf g) (vertexOf x)) isFrom in
+    let b = vertex-below (gridOf g) (on .there) in
+    let place : track .place ≡ trackPlace (gridOf g) v = ap (λ (t : Track). t .place) whole in
+    let stride : track .stride ≡ strideOf (gridOf g) (layerOf (gridOf g) v) = ap (λ (t : Track). t .stride) whole in
+    let columns = stepsColumn (gridOf g) (layerOf (gridOf g) v) in
+    record {
+      layer = ap (λ (x : VertexStruct). x .layer) isFrom;
+      place = place;
+      length = ap (λ (t : Track). t .length) whole;
+      stride = stride;
+      placeFits = rw place (either-below columns (omega (arith, b .column, on .small .columns)) (omega (arith, b .row, on .small .rows)));
+      strideFits = (let below = either-below columns {x = 1} {y = g .columns} {limit = 257} (omega arith) (omega (arith, on .small .columns)) in omega (arith, below, stride));
+    }
