@@ -4,6 +4,13 @@ use mathlib.Core.Bool.{cond}
 use Rattle.job.specs.Grid.{Grid, Vertex, vertices, stepsColumn}
 use Rattle.job.specs.Structs.{Small, gridOf, strideOf}
 use Rattle.rules.specs.Tracks.{Entered, outside, at}
+use Rattle.rules.specs.Segments.{Direction, low, high, Segment, fresh, running, paid, paidToward, Grown, back, grown}
+use Rattle.rules.specs.declared.segment.Direction.{Direction as DirectionEnum}
+use Rattle.rules.specs.declared.segment.Direction.the-variants.{Low, High}
+use Rattle.rules.specs.declared.segment.Segment.{Segment as SegmentEnum}
+use Rattle.rules.specs.declared.segment.Segment.the-variants.{Fresh, Running, Paid, PaidToward}
+use Rattle.rules.specs.declared.segment.Grown.{Grown as GrownEnum}
+use Rattle.rules.specs.declared.segment.Grown.the-variants as Grow
 use Rattle.rules.specs.declared.track.Entered.{Entered as EnteredEnum}
 use Rattle.rules.specs.declared.track.Entered.the-variants.{Outside, At}
 use Rattle.rules.specs.declared.track.Track.{Track}
@@ -26,3 +33,26 @@ trackOf g v =
       length = cond (stepsColumn g (v .layer)) (g .columns) (g .rows);
       stride = strideOf g (v .layer);
     }
+
+-- ---- segments
+
+unfoldable pub directionOf : DirectionEnum → Direction
+directionOf Low = low
+directionOf High = high
+
+unfoldable pub segmentOf : SegmentEnum → Segment
+segmentOf Fresh = fresh
+segmentOf (Running d n) = running (directionOf d) n
+segmentOf Paid = paid
+segmentOf (PaidToward d) = paidToward (directionOf d)
+
+unfoldable pub grownOf : GrownEnum → Grown
+grownOf Grow.Back = back
+grownOf (Grow.To s) = grown (segmentOf s)
+
+-- its length is below a layer's largest M
+unfoldable pub Short : SegmentEnum → Type 0
+Short Fresh = Unit
+Short (Running d n) = n < 16
+Short Paid = Unit
+Short (PaidToward d) = Unit

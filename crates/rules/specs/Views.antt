@@ -8,10 +8,10 @@ use mathlib.Core.List.{List, [], _∷_, map}
 use mathlib.Core.Bool.{Bool, true, false, _&&_, _||_, not}
 use lib.Dec.{leb, ltb, eqb}
 use Rattle.job.specs.Lists.{any}
-use Rattle.job.specs.Grid.{Grid, vertices, vertexNumber}
+use Rattle.job.specs.Grid.{Grid, Vertex, vertices, vertexNumber}
 use Rattle.job.specs.Job.{Box, Net, Job}
 use Rattle.job.specs.Reading.{onObstacle}
-use Rattle.rules.specs.Tracks.{layerOf, rowOf, columnOf, vertexBy}
+use Rattle.rules.specs.Tracks.{vertexBy}
 
 -- past the last vertex all is blocked, nothing is taken, nothing is in a guide
 pub record View : Type 0 where
@@ -32,15 +32,15 @@ unfoldable pub between : (low x high : ℕ) → Bool
 between low x high = leb low x && leb x high
 
 -- "boxes of 38 bits (layer low, high, row low, high, column low, high; both ends inside)"
-unfoldable pub inBox : Grid → ℕ → Box → Bool
-inBox g v b =
-    between (b .layerLow) (layerOf g v) (b .layerHigh)
-    && (between (b .rowLow) (rowOf g v) (b .rowHigh) && between (b .columnLow) (columnOf g v) (b .columnHigh))
+unfoldable pub inBox : Vertex → Box → Bool
+inBox v b =
+    between (b .layerLow) (v .layer) (b .layerHigh)
+    && (between (b .rowLow) (v .row) (b .rowHigh) && between (b .columnLow) (v .column) (b .columnHigh))
 
 -- "No boxes: the whole grid is inside the guide."
-unfoldable pub inGuide : Grid → List Box → ℕ → Bool
-inGuide g [] v = true
-inGuide g (b ∷ bs) v = any (inBox g v) (b ∷ bs)
+unfoldable pub inGuide : List Box → Vertex → Bool
+inGuide [] v = true
+inGuide (b ∷ bs) v = any (inBox v) (b ∷ bs)
 
 -- the pins of a net, by number
 unfoldable pub pinsOf : Grid → Net → List ℕ
@@ -59,5 +59,5 @@ viewOf j k metal =
     record {
       blocked = λ v. not (ltb v (vertices g)) || (onObstacle g (j .obstacles) (vertexBy g v) || othersHold k (map (pinsOf g) (j .nets)) v);
       taken = λ v. ltb v (vertices g) && othersHold k metal v;
-      guided = λ v. ltb v (vertices g) && inGuide g (boxesOf k (j .nets)) v;
+      guided = λ v. ltb v (vertices g) && inGuide (boxesOf k (j .nets)) (vertexBy g v);
     }

@@ -1,0 +1,65 @@
+// The segment that is being made.
+ghost use mathlib.Core.Path.{_≡_};
+ghost use Rattle.rules.specs.Segments.{ofLength, alongOnly, grow};
+ghost use Rattle.rules.specs.Structs.{Short, directionOf, segmentOf, grownOf};
+
+pub enum Direction {
+    Low,
+    High,
+}
+
+// A paid segment has a direction once it has made a step.
+pub enum Segment {
+    Fresh,
+    Running(Direction, usize),
+    Paid,
+    PaidToward(Direction),
+}
+
+// What a step makes of a segment, or that it would go back.
+pub enum Grown {
+    Back,
+    To(Segment),
+}
+
+// Length M or more is paid and keeps its direction.
+pub fn of_length(least: usize, direction: Direction, length: usize) -> Segment
+    ensures { λ r. ⌜ segmentOf r ≡ ofLength least (directionOf direction) length ⌝ }
+{
+    if least <= length {
+        Segment::PaidToward(direction)
+    } else {
+        Segment::Running(direction, length)
+    }
+}
+
+// No step goes back against the direction.
+fn along_only(was: Direction, now: Direction, segment: Segment) -> Grown
+    ensures { λ r. ⌜ grownOf r ≡ alongOnly (directionOf was) (directionOf now) (segmentOf segment) ⌝ }
+{
+    match was {
+        Direction::Low => match now {
+            Direction::Low => Grown::To(segment),
+            Direction::High => Grown::Back,
+        },
+        Direction::High => match now {
+            Direction::Low => Grown::Back,
+            Direction::High => Grown::To(segment),
+        },
+    }
+}
+
+// Running, a step adds 1 to the length. A join starts paid with no direction; its first step gives one.
+pub fn grow(least: usize, direction: Direction, segment: Segment) -> Grown
+    requires { ⌜ Short segment ⌝ }
+    ensures { λ r. ⌜ grownOf r ≡ grow least (directionOf direction) (segmentOf segment) ⌝ }
+{
+    match segment {
+        Segment::Fresh => Grown::To(of_length(least, direction, 1)),
+        Segment::Running(was, length) => {
+            along_only(was, direction, of_length(least, direction, length + 1))
+        }
+        Segment::Paid => Grown::To(Segment::PaidToward(direction)),
+        Segment::PaidToward(was) => along_only(was, direction, Segment::PaidToward(direction)),
+    }
+}
