@@ -14,6 +14,7 @@
 --     Members        whether a vertex is in a list
 --     Standing       the tree and the unjoined pins are apart in every standing
 --     Entries        every record that routing writes is the join of what stands
+--     Fitting        numbers of a vertex that fit a word, for the code
 --     Certificates   a table of costs as data, shown to be a table by a test
 pub mod Vertices
 pub mod Neighbours
