@@ -6,18 +6,15 @@
 --     roomHigh, all-inside           a run is inside where its first vertex is and the track has room
 use Prim.Native.Nat.{ℕ, zero, suc, _+_, _-_, _*_, _/_, _%_, _≤_, _<_}
 use mathlib.Core.Path.{_≡_, refl, sym, ap, _∙_}
-use mathlib.Core.List.{List}
 use mathlib.Core.Bool.{Bool, true, false, _&&_, cond, and-true}
 use native.Mathlib.Nat.{lt-of-not-le}
 use native.Mathlib.Decide.{decLe, decLt}
 use native.Mathlib.Omega.{arith}
-use lib.ListN.{set}
 use lib.Dec.{T, leb, ltb, eqb, ltb→lt, eqb→eq}
 use lib.Arith.{digits-lt, digits-div, digits-mod}
 use borrow.Author.Tests.{lt-ltb, le-ltb, le-leb, lt-leb, eq-eqb}
 use Rattle.job.specs.Lists.{all}
-use Rattle.job.specs.Grid.{Grid, Vertex, vertices, vertexNumber, inside, same, stepsColumn, nextHigh, runHigh}
-use Rattle.job.specs.Structs.{strideOf}
+use Rattle.job.specs.Grid.{Grid, Vertex, vertices, vertexNumber, inside, same, stepsColumn, nextHigh, runHigh, strideOf}
 use Rattle.job.proofs.Tests.{and-holds}
 
 -- ---- inside

@@ -1,5 +1,5 @@
 -- The rules of a job, stated on the record: its numbers fit their fields, and document 01's rules hold.
-use Prim.Native.Nat.{ℕ, _*_, _^_, _<_, _≤_}
+use Prim.Native.Nat.{ℕ, _^_, _<_, _≤_}
 use mathlib.Core.Path.{_≡_}
 use mathlib.Core.List.{List, [], _∷_, _++_}
 use mathlib.Core.Bool.{not}
@@ -7,7 +7,7 @@ use lib.ListN.{length}
 use lib.Dec.{T}
 use Rattle.job.specs.Lists.{any, all, All}
 use Rattle.job.specs.Grid.{Grid, Vertex, vertices, inside, same}
-use Rattle.job.specs.Job.{Layer, Obstacle, Box, Net, Job}
+use Rattle.job.specs.Job.{Layer, Obstacle, Net, Job}
 use Rattle.job.specs.Reading.{covered, onObstacle, goodBox, viaRule}
 
 -- at least one layer, column and row, in the fields' ranges; "at most 16,384" vertices

@@ -44,3 +44,7 @@ nextHigh g v =
 unfoldable pub runHigh : Grid → Vertex → ℕ → List Vertex
 runHigh g v zero = []
 runHigh g v (suc n) = v ∷ runHigh g (nextHigh g v) n
+
+-- what a step high along the layer's track adds to a vertex number
+unfoldable pub strideOf : Grid → (layer : ℕ) → ℕ
+strideOf g layer = cond (stepsColumn g layer) 1 (g .columns)

@@ -104,8 +104,6 @@ unfoldable pub boxGroup : List ℕ → ℕ → BoxGroup
 boxGroup bytes at =
     cond (whole (bitsOf bytes) at 38) (BoxGroup.Whole (boxStruct (boxAt (bitsOf bytes) at))) BoxGroup.Cut
 
--- ---- what was read, or a refusal with its place
-
 -- ---- what the code asks of a grid
 
 -- its numbers lie in their fields' ranges
@@ -125,7 +123,3 @@ pub record InFields (v : VertexStruct) : Type 0 where
 pub record Sized (g : GridStruct) : Type 0 where
   pub small : Small g
   pub vertices : vertices (gridOf g) ≤ 16384
-
--- what a step high along the layer's track adds to a vertex number
-unfoldable pub strideOf : Grid → (layer : ℕ) → ℕ
-strideOf g layer = cond (stepsColumn g layer) 1 (g .columns)

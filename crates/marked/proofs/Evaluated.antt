@@ -6,13 +6,12 @@ use mathlib.Core.Path.{_≡_, refl}
 use mathlib.Core.List.{List, [], _∷_}
 use Rattle.bits.specs.Bits.{fieldBits, number, bitsOf, packTo, packBits, field, whole}
 use Rattle.job.specs.Lists.{any, all, All}
-use Rattle.job.specs.Grid.{vertices, vertexNumber, inside, same, stepsColumn, nextHigh, runHigh}
+use Rattle.job.specs.Grid.{vertices, vertexNumber, inside, same, stepsColumn, nextHigh, runHigh, strideOf}
 use Rattle.job.specs.Job.{largestMinLength}
 use Rattle.job.specs.Reading.{good, _>>=_, _>>_, rule, readMany, headAt, readHead, layerAt, viaRule, readLayer, vertexAt, covered, onObstacle, readPin, readPins}
 use Rattle.job.specs.Reading.{boxAt, goodSpan, goodBox, readBox, readNetHead, readNet, netWidth, readNets, netsWidth, readTail, obstaclesAt, netsAt}
 use Rattle.job.specs.Reading.{readAfterHead, readBits, readJob}
 use Rattle.job.specs.Packing.{groupBits, concatBits}
-use Rattle.job.specs.Structs.{strideOf}
 use Rattle.paths.specs.Distances.{isCost, onward, keeps, lowestFrom, lowestKeeping, moveOn, follow}
 use Rattle.paths.specs.Starts.{orNext, best, startCost}
 use Rattle.rules.specs.Tracks.{layerOf, rowOf, columnOf, trackPlace, trackLength, ifThere, entered}

@@ -13,10 +13,10 @@ use lib.ListN.{set}
 use lib.Dec.{T, leb}
 use Rattle.bits.specs.Bits.{bitsOf, whole}
 use Rattle.job.specs.Lists.{all}
-use Rattle.job.specs.Grid.{Grid, inside, stepsColumn}
+use Rattle.job.specs.Grid.{Grid, inside, stepsColumn, strideOf}
 use Rattle.job.specs.Job.{Obstacle}
 use Rattle.job.specs.Reading.{Read, refused, good, _>>_, rule, obstacleAt, covered, readObstacle}
-use Rattle.job.specs.Structs.{Small, strideOf, gridOf, obstacleOf, obstacleStruct, obstacleGroup}
+use Rattle.job.specs.Structs.{Small, gridOf, obstacleOf, obstacleStruct, obstacleGroup}
 use Rattle.marks.specs.Structs.{obstacleRead}
 use Rattle.marks.specs.Marks.{reached, stopped, andThen, markCovered, markEvery, InMarks, markRead, obstaclesFrom}
 use Rattle.job.specs.declared.grid.Grid.{Grid as GridStruct}

@@ -8,8 +8,7 @@ use native.Mathlib.Omega.{arith}
 use lib.ListN.{set}
 use lib.Dec.{T}
 use Rattle.job.specs.Lists.{all}
-use Rattle.job.specs.Grid.{Grid, Vertex, vertices, vertexNumber, inside, nextHigh, runHigh}
-use Rattle.job.specs.Structs.{strideOf}
+use Rattle.job.specs.Grid.{Grid, Vertex, vertices, vertexNumber, inside, nextHigh, runHigh, strideOf}
 use Rattle.marks.specs.Marks.{markAll, markEvery, InMarks}
 use Rattle.job.proofs.Tests.{and-holds}
 use Rattle.job.proofs.Grids.{next-layer, number-next, number-below}

@@ -11,7 +11,7 @@ use mathlib.Core.List.{List, [], _∷_}
 use mathlib.Core.Bool.{Bool, cond}
 use lib.ListN.{length, getD, set, replicate}
 use lib.Dec.{T, eqb, leb}
-use Rattle.bits.specs.Bits.{bitsOf, field, whole}
+use Rattle.bits.specs.Bits.{field, whole}
 use Rattle.job.specs.Lists.{any}
 use Rattle.job.specs.Grid.{Grid, Vertex, inside, same, vertexNumber}
 use Rattle.job.specs.Job.{Obstacle}

@@ -8,7 +8,7 @@ use Rattle.job.specs.Job.{Net, Job}
 use Rattle.rules.specs.Views.{pinsOf, viewOf}
 use Rattle.rules.specs.Segments.{Place}
 use Rattle.rules.specs.Prices.{techOf}
-use Rattle.rules.specs.Walks.{Route, Walked, walked, Sum, startAt, walk}
+use Rattle.rules.specs.Walks.{Route, walked, Sum, startAt, walk}
 use Rattle.rules.specs.Standings.{Standing, metalAtFirst, begun, joinedBy}
 use Rattle.rules.specs.Joins.{join, none}
 use Rattle.rules.specs.Routings.{Entry}

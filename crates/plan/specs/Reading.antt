@@ -19,7 +19,7 @@ use Rattle.rules.specs.Prices.{Tech, techOf}
 use Rattle.rules.specs.Steps.{Made, Stepped, illegal, legal, step}
 use Rattle.rules.specs.Walks.{Sum, nothingYet, withMade, startAt}
 use Rattle.rules.specs.Standings.{Standing, metalAtFirst, begun, joinedBy}
-use Rattle.rules.specs.Joins.{Record, join, none}
+use Rattle.rules.specs.Joins.{join, none}
 use Rattle.rules.specs.Routings.{Entry, Totals, noTotals, withJoin, withNet, Routed}
 
 -- "15, first bit: flag, start with count, move or cost not whole"

@@ -2,7 +2,6 @@
 use Prim.Native.Nat.{ℕ, _-_, _+_, max}
 use mathlib.Core.List.{List, [], _∷_, map, _++_}
 use lib.ListN.{replicate, length, set}
-use Rattle.bits.specs.Bits.{field}
 use Rattle.job.specs.Job.{Layer, Job}
 use Rattle.job.specs.Reading.{Read, refused, good, Head, jobHead, netsAt, netsWidth}
 use Rattle.job.specs.declared.groups.Head.{Head as HeadStruct}

@@ -6,11 +6,10 @@
 use Prim.Native.Nat.{ℕ, zero, suc, _+_, _-_, _*_, _≤_, _<_}
 use mathlib.Core.Path.{_≡_, refl, ap, _∙_}
 use mathlib.Core.Bool.{Bool, true, false, cond}
-use native.Mathlib.Nat.{mul-le-mul}
 use native.Mathlib.Omega.{arith}
 use lib.Dec.{ltb}
-use Rattle.job.specs.Grid.{Grid, vertices, stepsColumn}
-use Rattle.job.specs.Structs.{gridOf, vertexOf, vertexStruct, strideOf}
+use Rattle.job.specs.Grid.{Grid, stepsColumn, strideOf}
+use Rattle.job.specs.Structs.{gridOf, vertexOf, vertexStruct}
 use Rattle.job.specs.declared.grid.Grid.{Grid as GridStruct}
 use Rattle.job.specs.declared.grid.Vertex.{Vertex as VertexStruct}
 use Rattle.job.proofs.Sizes.{product-within, small-vertices}

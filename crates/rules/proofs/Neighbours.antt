@@ -11,13 +11,10 @@ use mathlib.Core.Bool.{Bool, true, false, cond}
 use native.Mathlib.Nat.{not-suc-le-zero}
 use native.Mathlib.Omega.{arith}
 use borrow.Author.Tests.{ltb-true, lt-ltb}
-use Rattle.job.specs.Grid.{Grid, Vertex, vertices, vertexNumber, stepsColumn, nextHigh}
-use Rattle.job.specs.Structs.{strideOf}
-use Rattle.job.proofs.Grids.{Below, number-next, next-layer}
-use Rattle.rules.specs.Tracks.{layerOf, rowOf, columnOf, trackPlace, trackLength, outside, at, ifThere, entered}
+use Rattle.job.specs.Grid.{Grid, Vertex, vertices, vertexNumber, stepsColumn, nextHigh, strideOf}
+use Rattle.job.proofs.Grids.{Below, below-number, number-next, next-layer}
+use Rattle.rules.specs.Tracks.{layerOf, rowOf, columnOf, vertexBy, placeOn, lengthOn, trackPlace, trackLength, outside, at, ifThere, entered}
 use Rattle.rules.proofs.Vertices.{number-vertex, vertex-number, vertex-below}
-use Rattle.job.proofs.Grids.{below-number}
-use Rattle.rules.specs.Tracks.{vertexBy}
 
 -- a vertex that is entered only where a test holds
 there : (b : Bool) {v w : ℕ} → ifThere b v ≡ at w → (b ≡ true) × (v ≡ w)
@@ -35,13 +32,6 @@ pub record OneHigh (g : Grid) (v w : ℕ) : Type 0 where
   pub layer : layerOf g w ≡ layerOf g v
   pub place : trackPlace g w ≡ suc (trackPlace g v)
   pub room : trackPlace g w < trackLength g v
-
--- where on its track a vertex lies, and how long the track is
-abbrev placeOn : Grid → Vertex → ℕ
-placeOn g x = cond (stepsColumn g (x .layer)) (x .column) (x .row)
-
-abbrev lengthOn : Grid → (layer : ℕ) → ℕ
-lengthOn g l = cond (stepsColumn g l) (g .columns) (g .rows)
 
 -- the next vertex high lies one further
 next-place : (g : Grid) (x : Vertex) → placeOn g (nextHigh g x) ≡ suc (placeOn g x)

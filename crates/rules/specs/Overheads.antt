@@ -1,13 +1,13 @@
 -- What a via move owes for the segment that it leaves.
 --     clearRun                 the clear vertices beyond one
 --     Overhead, overheadOf     nothing, an extension, the area penalty, or that the move is forbidden
-use Prim.Native.Nat.{ℕ, zero, suc, _-_, _*_}
+use Prim.Native.Nat.{ℕ, zero, suc, _-_}
 use mathlib.Core.List.{List, [], _∷_}
 use mathlib.Core.Bool.{Bool, true, false, _&&_, not, cond}
 use lib.ListN.{length}
 use lib.Dec.{eqb}
 use Rattle.job.specs.Grid.{Grid}
-use Rattle.job.specs.Job.{Layer, closedPrice}
+use Rattle.job.specs.Job.{closedPrice}
 use Rattle.rules.specs.Tracks.{Entered, outside, at, entered}
 use Rattle.rules.specs.Views.{View}
 use Rattle.rules.specs.Segments.{Direction, low, high, Segment, fresh, running, paid, paidToward}

@@ -3,7 +3,7 @@
 --     penalty                  a penalty where it applies; the closed one forbids
 --     base, guideAt, shortAt   the parts of the price of entering
 --     entering                 their sum
-use Prim.Native.Nat.{ℕ, zero, suc, _+_, _-_}
+use Prim.Native.Nat.{ℕ}
 use mathlib.Core.List.{List}
 use mathlib.Core.Bool.{Bool, cond, not}
 use lib.ListN.{getD}

@@ -5,10 +5,9 @@
 --     routing                  a job
 use Prim.Native.Nat.{ℕ, zero, suc, _+_}
 use mathlib.Core.List.{List, [], _∷_, _++_}
-use mathlib.Core.Bool.{Bool, true, false, cond}
 use lib.ListN.{length}
 use Rattle.job.specs.Job.{Net, Job}
-use Rattle.rules.specs.Views.{View, pinsOf, viewOf}
+use Rattle.rules.specs.Views.{pinsOf, viewOf}
 use Rattle.rules.specs.Prices.{techOf}
 use Rattle.rules.specs.Walks.{Walked, stuck, walked, Sum, startAt, walk}
 use Rattle.rules.specs.Standings.{Standing, metalAtFirst, begun, joinedBy}

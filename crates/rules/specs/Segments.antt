@@ -1,5 +1,5 @@
 -- The segment that is being made, and a place: a vertex with its segment.
-use Prim.Native.Nat.{ℕ, zero, suc, _-_}
+use Prim.Native.Nat.{ℕ, suc}
 use mathlib.Core.Bool.{Bool, cond}
 use lib.Dec.{leb}
 

@@ -4,7 +4,7 @@
 --     begun, joinedBy  before its first join, and after one
 use Prim.Native.Nat.{ℕ, zero, suc}
 use mathlib.Core.List.{List, [], _∷_, _++_, map}
-use mathlib.Core.Bool.{Bool, true, false}
+use mathlib.Core.Bool.{true, false}
 use lib.Dec.{eqb}
 use Rattle.job.specs.Job.{Job}
 use Rattle.rules.specs.Views.{pinsOf}

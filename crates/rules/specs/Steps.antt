@@ -10,7 +10,7 @@ use Rattle.paths.specs.Systems.{Step}
 use Rattle.paths.specs.Distances.{Cost, fin, inf}
 use Rattle.rules.specs.Tracks.{Entered, outside, at, entered}
 use Rattle.rules.specs.Views.{View}
-use Rattle.rules.specs.Segments.{Direction, low, high, Segment, fresh, Place, Grown, back, grown, grow}
+use Rattle.rules.specs.Segments.{low, high, fresh, Place, Grown, back, grown, grow}
 use Rattle.rules.specs.Prices.{Tech, lineOf, entering}
 use Rattle.rules.specs.Overheads.{Overhead, nothing, lengthened, penalised, forbidden, overheadOf}
 

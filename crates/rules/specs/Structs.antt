@@ -1,9 +1,8 @@
 -- The forms in which the code holds vertices and moves.
 use Prim.Native.Nat.{ℕ, _<_}
-use mathlib.Core.Bool.{cond}
-use Rattle.job.specs.Grid.{Grid, Vertex, vertices, stepsColumn}
-use Rattle.job.specs.Structs.{Small, gridOf, strideOf}
-use Rattle.rules.specs.Tracks.{Entered, outside, at}
+use Rattle.job.specs.Grid.{Grid, Vertex, vertices, strideOf}
+use Rattle.job.specs.Structs.{Small, gridOf}
+use Rattle.rules.specs.Tracks.{placeOn, lengthOn, Entered, outside, at}
 use Rattle.rules.specs.Segments.{Direction, low, high, Segment, fresh, running, paid, paidToward, Grown, back, grown}
 use Rattle.rules.specs.declared.segment.Direction.{Direction as DirectionEnum}
 use Rattle.rules.specs.declared.segment.Direction.the-variants.{Low, High}
@@ -29,8 +28,8 @@ enteredOf (at w) = At w
 abbrev pub trackOf : Grid → Vertex → Track
 trackOf g v =
     record {
-      place = cond (stepsColumn g (v .layer)) (v .column) (v .row);
-      length = cond (stepsColumn g (v .layer)) (g .columns) (g .rows);
+      place = placeOn g v;
+      length = lengthOn g (v .layer);
       stride = strideOf g (v .layer);
     }
 
@@ -50,7 +49,7 @@ unfoldable pub grownOf : GrownEnum → Grown
 grownOf Grow.Back = back
 grownOf (Grow.To s) = grown (segmentOf s)
 
--- its length is below a layer's largest M
+-- its length fits the field of M, 4 bits
 unfoldable pub Short : SegmentEnum → Type 0
 Short Fresh = Unit
 Short (Running d n) = n < 16

@@ -1,12 +1,12 @@
 -- Vertices by number, and the vertex that a move enters.
 --     layerOf, rowOf, columnOf, vertexBy     a vertex taken apart
---     trackPlace, trackLength                where on its track a vertex lies, and how long the track is
+--     placeOn, lengthOn                      where on its track a vertex lies, and how long the track is
+--     trackPlace, trackLength                the same by its number
 --     entered                                the vertex that a move enters, if it stays in the grid
 use Prim.Native.Nat.{ℕ, zero, suc, _+_, _-_, _*_, _/_, _%_}
 use mathlib.Core.Bool.{Bool, cond}
 use lib.Dec.{ltb}
-use Rattle.job.specs.Grid.{Grid, Vertex, stepsColumn}
-use Rattle.job.specs.Structs.{strideOf}
+use Rattle.job.specs.Grid.{Grid, Vertex, stepsColumn, strideOf}
 
 -- "numbered by layer, row, column"
 unfoldable pub layerOf : Grid → ℕ → ℕ
@@ -23,11 +23,19 @@ abbrev pub vertexBy : Grid → ℕ → Vertex
 vertexBy g v = record { layer = layerOf g v; row = rowOf g v; column = columnOf g v }
 
 -- a step on the vertex's layer changes this, its column or its row
+abbrev pub placeOn : Grid → Vertex → ℕ
+placeOn g x = cond (stepsColumn g (x .layer)) (x .column) (x .row)
+
+-- how long a layer's tracks are
+abbrev pub lengthOn : Grid → (layer : ℕ) → ℕ
+lengthOn g layer = cond (stepsColumn g layer) (g .columns) (g .rows)
+
+-- the same by the vertex's number
 unfoldable pub trackPlace : Grid → ℕ → ℕ
-trackPlace g v = cond (stepsColumn g (layerOf g v)) (columnOf g v) (rowOf g v)
+trackPlace g v = placeOn g (vertexBy g v)
 
 unfoldable pub trackLength : Grid → ℕ → ℕ
-trackLength g v = cond (stepsColumn g (layerOf g v)) (g .columns) (g .rows)
+trackLength g v = lengthOn g (layerOf g v)
 
 pub data Entered : Type 0 where
   outside : Entered

@@ -2,15 +2,15 @@
 --     system                 places and priced moves, with the unjoined pins as goals
 --     Rival, Route           a list of moves from the tree to an unjoined pin
 --     Walked, walk           what a list of moves does
-use Prim.Native.Nat.{ℕ, _+_, _<_}
+use Prim.Native.Nat.{ℕ, _+_}
 use mathlib.Core.Path.{_≡_}
 use mathlib.Core.List.{List, [], _∷_, _++_}
-use mathlib.Core.Bool.{Bool, true}
+use mathlib.Core.Bool.{true}
 use lib.ListN.{length}
 use Rattle.paths.specs.Systems.{System}
 use Rattle.paths.specs.Rivals.{Rival as RivalFrom, Route as RouteFrom}
 use Rattle.rules.specs.Views.{View, member}
-use Rattle.rules.specs.Segments.{Segment, paid, Place}
+use Rattle.rules.specs.Segments.{paid, Place}
 use Rattle.rules.specs.Prices.{Tech}
 use Rattle.rules.specs.Steps.{Made, Stepped, illegal, legal, step, priced}
 

@@ -1,6 +1,6 @@
 -- `rules::track::track_of` meets its contract.
 use mathlib.Core.Path.{sym, _∙_}
-use Rattle.job.specs.Structs.{strideOf}
+use Rattle.job.specs.Grid.{strideOf}
 use Rattle.rules.proofs.track.track_of.Statement.{statement}
 use Rattle.rules.proofs.track.track_of.Tie as tie
 

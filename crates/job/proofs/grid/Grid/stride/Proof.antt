@@ -1,6 +1,6 @@
 -- `job::grid::Grid::stride` meets its contract.
 use mathlib.Core.Path.{sym, _∙_}
-use Rattle.job.specs.Structs.{strideOf}
+use Rattle.job.specs.Grid.{strideOf}
 use Rattle.job.proofs.grid.Grid.stride.Statement.{statement}
 use Rattle.job.proofs.grid.Grid.stride.Tie as tie
 
