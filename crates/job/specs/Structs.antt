@@ -1,7 +1,8 @@
 -- The forms in which the code holds the parts of a job, each made from the records of Job and the readers of Reading.
-use Prim.Native.Nat.{ℕ, _≤_, _<_, suc, _+_}
-use mathlib.Core.List.{List}
+use Prim.Native.Nat.{ℕ, _≤_, _<_, suc, _+_, _-_}
+use mathlib.Core.List.{List, map, _++_}
 use mathlib.Core.Bool.{cond}
+use lib.ListN.{replicate, length}
 use lib.Dec.{eqb}
 use Rattle.bits.specs.Bits.{bitsOf, field, whole}
 use Rattle.job.specs.Grid.{Grid, Vertex, stepsColumn, vertices}
@@ -15,6 +16,7 @@ use Rattle.job.specs.declared.groups.Head.{Head as HeadStruct}
 use Rattle.job.specs.declared.groups.Layer.{Layer as LayerStruct}
 use Rattle.job.specs.declared.groups.Obstacle.{Obstacle as ObstacleStruct}
 use Rattle.job.specs.declared.groups.Box.{Box as BoxStruct}
+use Rattle.job.specs.declared.layers.Layers.{Layers}
 use Rattle.job.specs.declared.groups.HeadGroup.{HeadGroup}
 use Rattle.job.specs.declared.groups.LayerGroup.{LayerGroup}
 use Rattle.job.specs.declared.groups.VertexGroup.{VertexGroup}
@@ -72,6 +74,19 @@ boxStruct b =
       layers = record { low = b .layerLow; high = b .layerHigh };
       rows = record { low = b .rowLow; high = b .rowHigh };
       columns = record { low = b .columnLow; high = b .columnHigh };
+    }
+
+-- an array of eight: what each layer holds, then 0
+unfoldable pub eight : List ℕ → List ℕ
+eight xs = xs ++ replicate (8 - length xs) 0
+
+unfoldable pub layersOf : List Layer → Layers
+layersOf ls =
+    record {
+      wire = eight (map (λ (l : Layer). l .wire) ls);
+      via = eight (map (λ (l : Layer). l .via) ls);
+      least = eight (map (λ (l : Layer). l .minLength) ls);
+      area = eight (map (λ (l : Layer). l .area) ls);
     }
 
 -- ---- groups: whole, or cut

@@ -15,7 +15,8 @@ use Rattle.job.specs.Reading.{Read, refused, good, _>>=_, Head, jobHead, readMa
 use Rattle.job.specs.Reading.{obstaclesAt, netsAt, netsWidth}
 use Rattle.job.specs.Good.{allPins}
 use Rattle.job.specs.Structs.{gridOf, headOf}
-use Rattle.reader.specs.Structs.{layersOf, layersRead, jobEnd, jobRead}
+use Rattle.job.specs.Structs.{layersOf}
+use Rattle.reader.specs.Structs.{layersRead, jobEnd, jobRead}
 use Rattle.marks.specs.Marks.{Marks, answerOf, marksOf, groupsFrom}
 use Rattle.marks.specs.declared.reached.Reached.{Reached}
 use Rattle.job.specs.declared.groups.Head.{Head as HeadStruct}

@@ -19,10 +19,11 @@ use lib.Seq.{set-at, drop-cons}
 use Rattle.job.specs.Job.{Layer, largestMinLength}
 use Rattle.bits.specs.Bits.{bitsOf, whole}
 use Rattle.job.specs.Reading.{Read, refused, good, _>>=_, _>>_, rule, readMany, layerAt, viaRule, readLayer}
-use Rattle.reader.specs.Structs.{eight, largestIn, layersOf, withLine, layerRead, layersRead}
+use Rattle.job.specs.Structs.{eight, layersOf}
+use Rattle.reader.specs.Structs.{largestIn, withLine, layerRead, layersRead}
 use Rattle.job.specs.Structs.{layerStruct, layerGroup}
 use Rattle.marks.specs.declared.reached.Reached.{Reached}
-use Rattle.reader.specs.declared.layers.Layers.{Layers}
+use Rattle.job.specs.declared.layers.Layers.{Layers}
 use Rattle.reader.specs.declared.layers.LayerRead.{LayerRead}
 use Rattle.job.specs.declared.groups.LayerGroup.{LayerGroup}
 use Rattle.job.specs.declared.groups.Layer.{Layer as LayerStruct}

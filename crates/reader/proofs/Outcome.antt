@@ -12,7 +12,8 @@ use Rattle.job.specs.Job.{Layer, Job, largestMinLength}
 use Rattle.job.specs.Reading.{Read, refused, good, jobHead, readJob}
 use Rattle.job.specs.Good.{GoodLines, GoodJob}
 use Rattle.job.specs.Structs.{Small, headStruct}
-use Rattle.reader.specs.Structs.{layersOf, largestIn, jobRead}
+use Rattle.job.specs.Structs.{layersOf}
+use Rattle.reader.specs.Structs.{largestIn, jobRead}
 use Rattle.marks.specs.Marks.{Bare}
 use Rattle.marks.specs.declared.reached.Reached.{Reached}
 use Rattle.reader.specs.declared.whole.JobRead.{JobRead}

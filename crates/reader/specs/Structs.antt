@@ -1,18 +1,18 @@
 -- The forms in which the code answers and hands a job on, each made from what Reading says.
-use Prim.Native.Nat.{ℕ, _-_, _+_, max}
-use mathlib.Core.List.{List, [], _∷_, map, _++_}
-use lib.ListN.{replicate, length, set}
+use Prim.Native.Nat.{ℕ, _+_, max}
+use mathlib.Core.List.{List, [], _∷_}
+use lib.ListN.{set}
 use Rattle.job.specs.Job.{Layer, Job}
 use Rattle.job.specs.Reading.{Read, refused, good, Head, jobHead, netsAt, netsWidth}
 use Rattle.job.specs.declared.groups.Head.{Head as HeadStruct}
 use Rattle.job.specs.declared.groups.Layer.{Layer as LayerStruct}
 use Rattle.reader.specs.declared.head.HeadRead.{HeadRead}
 use Rattle.reader.specs.declared.layers.LayerRead.{LayerRead}
-use Rattle.reader.specs.declared.layers.Layers.{Layers}
+use Rattle.job.specs.declared.layers.Layers.{Layers}
 use Rattle.reader.specs.declared.layers.LayersRead.{LayersRead}
 use Rattle.marks.specs.declared.reached.Reached.{Reached}
 use Rattle.reader.specs.declared.whole.JobRead.{JobRead}
-use Rattle.job.specs.Structs.{headStruct, layerStruct}
+use Rattle.job.specs.Structs.{headStruct, layerStruct, layersOf}
 
 unfoldable pub headRead : Read Head → HeadRead
 headRead (refused n p) = HeadRead.Refused n p
@@ -21,19 +21,6 @@ headRead (good h) = HeadRead.Good (headStruct h)
 unfoldable pub layerRead : Read Layer → LayerRead
 layerRead (refused n p) = LayerRead.Refused n p
 layerRead (good l) = LayerRead.Good (layerStruct l)
-
--- an array of eight: what each layer holds, then 0
-unfoldable pub eight : List ℕ → List ℕ
-eight xs = xs ++ replicate (8 - length xs) 0
-
-unfoldable pub layersOf : List Layer → Layers
-layersOf ls =
-    record {
-      wire = eight (map (λ (l : Layer). l .wire) ls);
-      via = eight (map (λ (l : Layer). l .via) ls);
-      least = eight (map (λ (l : Layer). l .minLength) ls);
-      area = eight (map (λ (l : Layer). l .area) ls);
-    }
 
 -- the largest of numbers
 unfoldable pub largestIn : List ℕ → ℕ

@@ -6,23 +6,17 @@ ghost use mathlib.Core.List.{[]};
 ghost use lib.ListN.{length};
 ghost use Rattle.bits.specs.Bits.{bitsOf};
 ghost use Rattle.job.specs.Reading.{readLayer, readMany, viaRule};
-ghost use Rattle.reader.specs.Structs.{layerRead, layersOf, withLine, layersRead, largestIn};
+ghost use Rattle.job.specs.Structs.{layersOf};
+ghost use Rattle.reader.specs.Structs.{layerRead, withLine, layersRead, largestIn};
 use job::groups::Layer;
 use job::groups::LayerGroup;
 use job::groups::layer_group;
+use job::layers::Layers;
 use marks::reached::Reached;
 
 pub enum LayerRead {
     Good(Layer),
     Refused(usize, usize),
-}
-
-// Indexed by layer; 0 past the top layer.
-pub struct Layers {
-    pub wire: [usize; 8],
-    pub via: [usize; 8],
-    pub least: [usize; 8],
-    pub area: [usize; 8],
 }
 
 // How far reading came, and the lines, which are 0 after a refusal.

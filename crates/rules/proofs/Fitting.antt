@@ -3,6 +3,7 @@
 --     low-by, down-by   what a move low or down takes off is no more than the vertex
 --     enters-none       a number that is no move's
 --     track-read        what the code has read of a vertex and its track
+--     entered-outside, entered-at   what was entered, from the code's form
 use Prim.Native.Nat.{ℕ, zero, suc, _+_, _-_, _*_, _≤_, _<_}
 use mathlib.Core.Path.{_≡_, refl, ap, _∙_}
 use mathlib.Core.Bool.{Bool, true, false, cond}
@@ -13,8 +14,9 @@ use Rattle.job.specs.Structs.{gridOf, vertexOf, vertexStruct}
 use Rattle.job.specs.declared.grid.Grid.{Grid as GridStruct}
 use Rattle.job.specs.declared.grid.Vertex.{Vertex as VertexStruct}
 use Rattle.job.proofs.Sizes.{product-within, small-vertices}
-use Rattle.rules.specs.Tracks.{layerOf, vertexBy, trackPlace, trackLength, outside, ifThere, entered}
-use Rattle.rules.specs.Structs.{OnGrid, trackOf}
+use Rattle.rules.specs.Tracks.{layerOf, vertexBy, trackPlace, trackLength, Entered, outside, at, ifThere, entered}
+use Rattle.rules.specs.Structs.{OnGrid, enteredOf, trackOf}
+use Rattle.rules.specs.declared.track.Entered.the-variants.{Outside, At}
 use Rattle.rules.specs.declared.track.Track.{Track}
 use Rattle.rules.proofs.Vertices.{vertex-below}
 use Rattle.rules.proofs.Neighbours.{low-enters, down-enters}
@@ -103,3 +105,17 @@ track-read g v {from} {track} on isFrom isTrack =
       placeFits = rw place (either-below columns (omega (arith, b .column, on .small .columns)) (omega (arith, b .row, on .small .rows)));
       strideFits = (let below = either-below columns {x = 1} {y = g .columns} {limit = 257} (omega arith) (omega (arith, on .small .columns)) in omega (arith, below, stride));
     }
+
+-- ---- what was entered, from the code's form
+
+-- nothing
+pub entered-outside : (e : Entered) → enteredOf e ≡ Outside → e ≡ outside
+unfolding enteredOf
+entered-outside outside h = refl
+entered-outside (at w) h = cc
+
+-- a vertex
+pub entered-at : (e : Entered) {w : ℕ} → enteredOf e ≡ At w → e ≡ at w
+unfolding enteredOf
+entered-at outside h = cc
+entered-at (at v) h = cc

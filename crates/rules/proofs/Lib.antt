@@ -33,3 +33,4 @@ pub mod Standing
 pub mod Entries
 pub mod Certificates
 pub mod Fitting
+pub mod Runs

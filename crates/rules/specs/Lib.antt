@@ -10,4 +10,5 @@ pub mod Joins
 pub mod Places
 pub mod Routings
 pub mod Maps
+pub mod Seen
 pub mod Structs

@@ -1,9 +1,13 @@
 -- The forms in which the code holds vertices and moves.
 use Prim.Native.Nat.{ℕ, _<_}
+use mathlib.Core.List.{List, [], _∷_}
+use lib.ListN.{length}
 use Rattle.job.specs.Grid.{Grid, Vertex, vertices, strideOf}
 use Rattle.job.specs.Structs.{Small, gridOf}
 use Rattle.rules.specs.Tracks.{placeOn, lengthOn, Entered, outside, at}
+use Rattle.rules.specs.Views.{View}
 use Rattle.rules.specs.Segments.{Direction, low, high, Segment, fresh, running, paid, paidToward, Grown, back, grown}
+use Rattle.rules.specs.Overheads.{clearRun}
 use Rattle.rules.specs.declared.segment.Direction.{Direction as DirectionEnum}
 use Rattle.rules.specs.declared.segment.Direction.the-variants.{Low, High}
 use Rattle.rules.specs.declared.segment.Segment.{Segment as SegmentEnum}
@@ -55,3 +59,9 @@ Short Fresh = Unit
 Short (Running d n) = n < 16
 Short Paid = Unit
 Short (PaidToward d) = Unit
+
+-- ---- overhead
+
+-- how many clear vertices lie low and high of a vertex, at most so many
+unfoldable pub runsOf : Grid → View → (most v : ℕ) → List ℕ
+runsOf g view most v = length (clearRun g view low most v) ∷ length (clearRun g view high most v) ∷ []

@@ -1,4 +1,6 @@
 // The rules of moves and prices.
 pub mod guide;
+pub mod overhead;
+pub mod seen;
 pub mod segment;
 pub mod track;

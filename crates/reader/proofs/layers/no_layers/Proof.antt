@@ -1,6 +1,6 @@
 -- `reader::layers::no_layers` meets its contract.
 use mathlib.Core.Path.{refl}
-use Rattle.reader.specs.Structs.{layersOf, eight}
+use Rattle.job.specs.Structs.{layersOf, eight}
 use Rattle.reader.proofs.layers.no_layers.Statement.{statement}
 use Rattle.reader.proofs.layers.no_layers.Tie as tie
 
