@@ -1,5 +1,5 @@
--- The rows of the table, by evaluation.
---     job-of-bytes       the bytes of each row are read as its job
+-- The rows and the edges of the table, by evaluation.
+--     job-of-bytes       the bytes of each row are read as its job, and those of each edge as it says
 --     records-of-job     routing each row's job by tables that pass their tests writes its records
 --     plan-of-A          the plan of the first row
 use mathlib.Core.Path.{_≡_, refl}
@@ -27,6 +27,7 @@ use Rattle.rules.specs.Places.{segmentCode}
 use Rattle.rules.proofs.Certificates.{entryCost, tableCost, withinTest, settledTest, supportedTest, movesTest, placeTest, allBelow, allSegments, certified}
 use Rattle.plan.specs.Layout.{recordBits, planBytes}
 use Rattle.marked.specs.Table.{viaBelow, plainLines, plainJob, pin, Row, rowA, rowB, rowC, rowD, rowE, rowF, rowG, rowH, rowI, rowJ, rowK, rowL, rows}
+use Rattle.marked.specs.Table.{IsEdge, largestGrid, largerGrid, leastM, noM, edges}
 use Rattle.marked.proofs.Costs.{costsA, costsB, costsC, costsD, costsE, costsF, costsG, costsH, costsI, costsJ, costsK, costsL}
 use Rattle.marked.proofs.Checking.{Costs, right, withRecords, afterMoves, afterRecord, byTable, netBy, thenNets, netsBy, answerOf, written}
 
@@ -34,13 +35,16 @@ use Rattle.marked.proofs.Checking.{Costs, right, withRecords, afterMove
 abbrev pub IsRead : Row → Type 0
 IsRead row = readJob (row .bytes) ≡ good (row .job)
 
--- "Job in hex": the bytes of each row are read as its job
-pub job-of-bytes : All IsRead rows
-unfolding All rows rowA rowB rowC rowD rowE rowF rowG rowH rowI rowJ rowK rowL viaBelow plainLines plainJob pin
+-- "Job in hex": the bytes of each row are read as its job; and those of each edge as it says
+pub job-of-bytes : All IsRead rows × All IsEdge edges
+unfolding All rows rowA rowB rowC rowD rowE rowF rowG rowH rowI rowJ rowK rowL edges largestGrid largerGrid leastM noM viaBelow plainLines plainJob pin
     fieldBits number bitsOf field whole any all vertices inside same covered runHigh nextHigh stepsColumn onObstacle _>>=_ _>>_ rule readMany headAt readHead
     layerAt viaRule readLayer vertexAt readPin readPins boxAt goodSpan goodBox readBox readNetHead readNet netWidth readNets netsWidth readTail obstaclesAt
     netsAt readAfterHead readBits readJob
-job-of-bytes = (refl, (refl, (refl, (refl, (refl, (refl, (refl, (refl, (refl, (refl, (refl, (refl, tt))))))))))))
+job-of-bytes = (
+  (refl, (refl, (refl, (refl, (refl, (refl, (refl, (refl, (refl, (refl, (refl, (refl, tt)))))))))))),
+  (refl, (refl, (refl, (refl, tt)))),
+)
 
 -- a row's records are what routing its job by some tables of costs gives, and each of the tables passes the test
 abbrev pub IsWritten : Row → Type 0

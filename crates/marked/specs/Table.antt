@@ -1,14 +1,20 @@
--- The marked routes: twelve jobs by their bytes, what they hold, and the records that routing them writes.
---     plainLines, plainJob     the plain job with its sizes, prices and nets changed
---     Row                      a job's bytes, the job, and its records net by net
---     Right                    what is claimed of a row
---     rowA .. rowL, rows       the twelve
+-- The marked routes: twelve jobs by their bytes, what they hold, and the records that routing them writes; and the edges: four jobs by their
+-- bytes, and what reading them gives.
+--     plainLines, plainJob         the plain job with its sizes, M, prices and nets changed
+--     Row                          a job's bytes, the job, and its records net by net
+--     Right                        what is claimed of a row
+--     rowA .. rowL, rows           the twelve
+--     Edge                         a job's bytes, and what reading them gives
+--     IsEdge                       what is claimed of an edge
+--     largestGrid .. noM, edges    the four
+--     Marked                       the claim
 use Prim.Native.Nat.{ℕ, zero, suc}
 use mathlib.Core.Path.{_≡_}
 use mathlib.Core.List.{List, [], _∷_, map}
+use Rattle.job.specs.Lists.{All}
 use Rattle.job.specs.Grid.{Vertex}
 use Rattle.job.specs.Job.{Layer, Net, Job, closedPrice}
-use Rattle.job.specs.Reading.{good, readJob}
+use Rattle.job.specs.Reading.{Read, refused, good, readJob}
 use Rattle.rules.specs.Joins.{Record, join, none}
 use Rattle.rules.specs.Routings.{Entry, routing}
 
@@ -17,19 +23,19 @@ unfoldable pub viaBelow : (above : ℕ) → ℕ
 viaBelow zero = 0
 viaBelow (suc n) = 2
 
--- "wire 1, via 2, M 3"
-unfoldable pub plainLines : (layers area : ℕ) → List Layer
-plainLines zero area = []
-plainLines (suc n) area = record { wire = 1; via = viaBelow n; minLength = 3; area = area } ∷ plainLines n area
+-- "wire 1, via 2"
+unfoldable pub plainLines : (layers minLength area : ℕ) → List Layer
+plainLines zero minLength area = []
+plainLines (suc n) minLength area = record { wire = 1; via = viaBelow n; minLength = minLength; area = area } ∷ plainLines n minLength area
 
 -- "Plain job: 8 columns, 4 rows, two layers, direction 0, wire 1, via 2, M 3, area 50, guide 10, short 20."
-unfoldable pub plainJob : (layers columns rows area short : ℕ) → List Net → Job
-plainJob layers columns rows area short nets =
+unfoldable pub plainJob : (layers columns rows minLength area short : ℕ) → List Net → Job
+plainJob layers columns rows minLength area short nets =
     record {
       grid = record { direction = 0; layers = layers; columns = columns; rows = rows };
       guide = 10;
       short = short;
-      lines = plainLines layers area;
+      lines = plainLines layers minLength area;
       obstacles = [];
       nets = nets;
     }
@@ -52,7 +58,7 @@ pub record Right (row : Row) : Type 0 where
 unfoldable pub rowA : Row
 rowA = record {
   bytes = 0x11 ∷ 0x07 ∷ 0x03 ∷ 0x00 ∷ 0x0A ∷ 0x00 ∷ 0x14 ∷ 0x01 ∷ 0x00 ∷ 0x00 ∷ 0x00 ∷ 0x40 ∷ 0x23 ∷ 0x00 ∷ 0x32 ∷ 0x00 ∷ 0x40 ∷ 0x03 ∷ 0x00 ∷ 0x32 ∷ 0x10 ∷ 0x00 ∷ 0x00 ∷ 0x00 ∷ 0x00 ∷ 0x0C ∷ [];
-  job = plainJob 2 8 4 50 20 (record { pins = pin 0 0 0 ∷ pin 0 0 3 ∷ []; boxes = [] } ∷ []);
+  job = plainJob 2 8 4 3 50 20 (record { pins = pin 0 0 0 ∷ pin 0 0 3 ∷ []; boxes = [] } ∷ []);
   records = join 0 (1 ∷ 1 ∷ 1 ∷ []) 3 ∷ [];
 }
 
@@ -60,7 +66,7 @@ rowA = record {
 unfoldable pub rowB : Row
 rowB = record {
   bytes = 0x11 ∷ 0x07 ∷ 0x03 ∷ 0x00 ∷ 0x0A ∷ 0x00 ∷ 0x14 ∷ 0x01 ∷ 0x00 ∷ 0x00 ∷ 0x00 ∷ 0x40 ∷ 0x23 ∷ 0x00 ∷ 0x32 ∷ 0x00 ∷ 0x40 ∷ 0x03 ∷ 0x00 ∷ 0x32 ∷ 0x10 ∷ 0x00 ∷ 0x00 ∷ 0x00 ∷ 0x04 ∷ 0x0C ∷ [];
-  job = plainJob 2 8 4 50 20 (record { pins = pin 0 0 0 ∷ pin 0 1 3 ∷ []; boxes = [] } ∷ []);
+  job = plainJob 2 8 4 3 50 20 (record { pins = pin 0 0 0 ∷ pin 0 1 3 ∷ []; boxes = [] } ∷ []);
   records = join 0 (1 ∷ 1 ∷ 1 ∷ 3 ∷ 1 ∷ 2 ∷ []) 10 ∷ [];
 }
 
@@ -68,7 +74,7 @@ rowB = record {
 unfoldable pub rowC : Row
 rowC = record {
   bytes = 0x11 ∷ 0x07 ∷ 0x01 ∷ 0x00 ∷ 0x0A ∷ 0x00 ∷ 0x14 ∷ 0x01 ∷ 0x00 ∷ 0x00 ∷ 0x00 ∷ 0x40 ∷ 0x23 ∷ 0x00 ∷ 0x32 ∷ 0x00 ∷ 0x40 ∷ 0x03 ∷ 0x00 ∷ 0x32 ∷ 0x10 ∷ 0x00 ∷ 0x00 ∷ 0x00 ∷ 0x04 ∷ 0x0C ∷ [];
-  job = plainJob 2 8 2 50 20 (record { pins = pin 0 0 0 ∷ pin 0 1 3 ∷ []; boxes = [] } ∷ []);
+  job = plainJob 2 8 2 3 50 20 (record { pins = pin 0 0 0 ∷ pin 0 1 3 ∷ []; boxes = [] } ∷ []);
   records = join 0 (1 ∷ 1 ∷ 1 ∷ 3 ∷ 1 ∷ 2 ∷ []) 58 ∷ [];
 }
 
@@ -76,7 +82,7 @@ rowC = record {
 unfoldable pub rowD : Row
 rowD = record {
   bytes = 0x11 ∷ 0x07 ∷ 0x01 ∷ 0x00 ∷ 0x0A ∷ 0x00 ∷ 0x14 ∷ 0x01 ∷ 0x00 ∷ 0x00 ∷ 0x00 ∷ 0x40 ∷ 0x23 ∷ 0xFF ∷ 0xFF ∷ 0x00 ∷ 0x40 ∷ 0x03 ∷ 0xFF ∷ 0xFF ∷ 0x10 ∷ 0x00 ∷ 0x00 ∷ 0x00 ∷ 0x04 ∷ 0x0C ∷ [];
-  job = plainJob 2 8 2 closedPrice 20 (record { pins = pin 0 0 0 ∷ pin 0 1 3 ∷ []; boxes = [] } ∷ []);
+  job = plainJob 2 8 2 3 closedPrice 20 (record { pins = pin 0 0 0 ∷ pin 0 1 3 ∷ []; boxes = [] } ∷ []);
   records = none ∷ [];
 }
 
@@ -84,7 +90,7 @@ rowD = record {
 unfoldable pub rowE : Row
 rowE = record {
   bytes = 0x12 ∷ 0x07 ∷ 0x03 ∷ 0x00 ∷ 0x0A ∷ 0x00 ∷ 0x14 ∷ 0x01 ∷ 0x00 ∷ 0x00 ∷ 0x00 ∷ 0x40 ∷ 0x23 ∷ 0x00 ∷ 0x32 ∷ 0x00 ∷ 0x40 ∷ 0x23 ∷ 0x00 ∷ 0x32 ∷ 0x00 ∷ 0x40 ∷ 0x03 ∷ 0x00 ∷ 0x32 ∷ 0x10 ∷ 0x00 ∷ 0x00 ∷ 0x08 ∷ 0x00 ∷ 0x00 ∷ [];
-  job = plainJob 3 8 4 50 20 (record { pins = pin 0 0 0 ∷ pin 2 0 0 ∷ []; boxes = [] } ∷ []);
+  job = plainJob 3 8 4 3 50 20 (record { pins = pin 0 0 0 ∷ pin 2 0 0 ∷ []; boxes = [] } ∷ []);
   records = join 0 (3 ∷ 3 ∷ []) 7 ∷ [];
 }
 
@@ -92,7 +98,7 @@ rowE = record {
 unfoldable pub rowF : Row
 rowF = record {
   bytes = 0x12 ∷ 0x07 ∷ 0x02 ∷ 0x00 ∷ 0x0A ∷ 0x00 ∷ 0x14 ∷ 0x01 ∷ 0x00 ∷ 0x00 ∷ 0x00 ∷ 0x40 ∷ 0x23 ∷ 0x00 ∷ 0x32 ∷ 0x00 ∷ 0x40 ∷ 0x23 ∷ 0x00 ∷ 0x32 ∷ 0x00 ∷ 0x40 ∷ 0x03 ∷ 0x00 ∷ 0x32 ∷ 0x10 ∷ 0x00 ∷ 0x00 ∷ 0x08 ∷ 0x00 ∷ 0x00 ∷ [];
-  job = plainJob 3 8 3 50 20 (record { pins = pin 0 0 0 ∷ pin 2 0 0 ∷ []; boxes = [] } ∷ []);
+  job = plainJob 3 8 3 3 50 20 (record { pins = pin 0 0 0 ∷ pin 2 0 0 ∷ []; boxes = [] } ∷ []);
   records = join 0 (3 ∷ 3 ∷ []) 54 ∷ [];
 }
 
@@ -100,7 +106,7 @@ rowF = record {
 unfoldable pub rowG : Row
 rowG = record {
   bytes = 0x12 ∷ 0x07 ∷ 0x02 ∷ 0x00 ∷ 0x0A ∷ 0x00 ∷ 0x14 ∷ 0x01 ∷ 0x00 ∷ 0x00 ∷ 0x00 ∷ 0x40 ∷ 0x23 ∷ 0xFF ∷ 0xFF ∷ 0x00 ∷ 0x40 ∷ 0x23 ∷ 0xFF ∷ 0xFF ∷ 0x00 ∷ 0x40 ∷ 0x03 ∷ 0xFF ∷ 0xFF ∷ 0x10 ∷ 0x00 ∷ 0x00 ∷ 0x08 ∷ 0x00 ∷ 0x00 ∷ [];
-  job = plainJob 3 8 3 closedPrice 20 (record { pins = pin 0 0 0 ∷ pin 2 0 0 ∷ []; boxes = [] } ∷ []);
+  job = plainJob 3 8 3 3 closedPrice 20 (record { pins = pin 0 0 0 ∷ pin 2 0 0 ∷ []; boxes = [] } ∷ []);
   records = none ∷ [];
 }
 
@@ -108,7 +114,7 @@ rowG = record {
 unfoldable pub rowH : Row
 rowH = record {
   bytes = 0x12 ∷ 0x07 ∷ 0x04 ∷ 0x00 ∷ 0x0A ∷ 0x00 ∷ 0x14 ∷ 0x01 ∷ 0x00 ∷ 0x00 ∷ 0x00 ∷ 0x40 ∷ 0x23 ∷ 0x00 ∷ 0x32 ∷ 0x00 ∷ 0x40 ∷ 0x23 ∷ 0x00 ∷ 0x32 ∷ 0x00 ∷ 0x40 ∷ 0x03 ∷ 0x00 ∷ 0x32 ∷ 0x10 ∷ 0x00 ∷ 0x60 ∷ 0x68 ∷ 0x10 ∷ 0x0C ∷ [];
-  job = plainJob 3 8 5 50 20 (record { pins = pin 0 3 3 ∷ pin 2 4 3 ∷ []; boxes = [] } ∷ []);
+  job = plainJob 3 8 5 3 50 20 (record { pins = pin 0 3 3 ∷ pin 2 4 3 ∷ []; boxes = [] } ∷ []);
   records = join 27 (3 ∷ 0 ∷ 0 ∷ 2 ∷ 3 ∷ 1 ∷ 1 ∷ 1 ∷ 3 ∷ []) 17 ∷ [];
 }
 
@@ -116,7 +122,7 @@ rowH = record {
 unfoldable pub rowI : Row
 rowI = record {
   bytes = 0x11 ∷ 0x07 ∷ 0x03 ∷ 0x00 ∷ 0x0A ∷ 0x00 ∷ 0x14 ∷ 0x01 ∷ 0x00 ∷ 0x00 ∷ 0x00 ∷ 0x40 ∷ 0x23 ∷ 0x00 ∷ 0x32 ∷ 0x00 ∷ 0x40 ∷ 0x03 ∷ 0x00 ∷ 0x32 ∷ 0x20 ∷ 0x00 ∷ 0x00 ∷ 0x00 ∷ 0x00 ∷ 0x0C ∷ 0x00 ∷ 0x80 ∷ 0x80 ∷ [];
-  job = plainJob 2 8 4 50 20 (record { pins = pin 0 0 0 ∷ pin 0 0 3 ∷ pin 0 1 1 ∷ []; boxes = [] } ∷ []);
+  job = plainJob 2 8 4 3 50 20 (record { pins = pin 0 0 0 ∷ pin 0 0 3 ∷ pin 0 1 1 ∷ []; boxes = [] } ∷ []);
   records = join 0 (1 ∷ 1 ∷ 1 ∷ []) 3 ∷ join 1 (3 ∷ 1 ∷ 2 ∷ []) 7 ∷ [];
 }
 
@@ -124,7 +130,7 @@ rowI = record {
 unfoldable pub rowJ : Row
 rowJ = record {
   bytes = 0x11 ∷ 0x07 ∷ 0x03 ∷ 0x00 ∷ 0x0A ∷ 0x00 ∷ 0x14 ∷ 0x01 ∷ 0x00 ∷ 0x00 ∷ 0x00 ∷ 0x40 ∷ 0x23 ∷ 0x00 ∷ 0x32 ∷ 0x00 ∷ 0x40 ∷ 0x03 ∷ 0x00 ∷ 0x32 ∷ 0x11 ∷ 0x00 ∷ 0x00 ∷ 0x00 ∷ 0x00 ∷ 0x0C ∷ 0x00 ∷ 0x00 ∷ 0x00 ∷ 0x00 ∷ 0x20 ∷ [];
-  job = plainJob 2 8 4 50 20 (record { pins = pin 0 0 0 ∷ pin 0 0 3 ∷ []; boxes = record { layerLow = 0; layerHigh = 0; rowLow = 0; rowHigh = 0; columnLow = 0; columnHigh = 2 } ∷ [] } ∷ []);
+  job = plainJob 2 8 4 3 50 20 (record { pins = pin 0 0 0 ∷ pin 0 0 3 ∷ []; boxes = record { layerLow = 0; layerHigh = 0; rowLow = 0; rowHigh = 0; columnLow = 0; columnHigh = 2 } ∷ [] } ∷ []);
   records = join 0 (1 ∷ 1 ∷ 1 ∷ []) 13 ∷ [];
 }
 
@@ -132,7 +138,7 @@ rowJ = record {
 unfoldable pub rowK : Row
 rowK = record {
   bytes = 0x12 ∷ 0x00 ∷ 0x03 ∷ 0x00 ∷ 0x0A ∷ 0x00 ∷ 0x14 ∷ 0x02 ∷ 0x00 ∷ 0x00 ∷ 0x00 ∷ 0x40 ∷ 0x23 ∷ 0x00 ∷ 0x32 ∷ 0x00 ∷ 0x40 ∷ 0x23 ∷ 0x00 ∷ 0x32 ∷ 0x00 ∷ 0x40 ∷ 0x03 ∷ 0x00 ∷ 0x32 ∷ 0x10 ∷ 0x20 ∷ 0x00 ∷ 0x04 ∷ 0x08 ∷ 0x00 ∷ 0x40 ∷ 0x00 ∷ 0x80 ∷ 0x20 ∷ 0x10 ∷ 0x00 ∷ [];
-  job = plainJob 3 1 4 50 20 (record { pins = pin 1 0 0 ∷ pin 1 2 0 ∷ []; boxes = [] } ∷ record { pins = pin 0 1 0 ∷ pin 2 1 0 ∷ []; boxes = [] } ∷ []);
+  job = plainJob 3 1 4 3 50 20 (record { pins = pin 1 0 0 ∷ pin 1 2 0 ∷ []; boxes = [] } ∷ record { pins = pin 0 1 0 ∷ pin 2 1 0 ∷ []; boxes = [] } ∷ []);
   records = join 4 (1 ∷ 1 ∷ []) 2 ∷ join 1 (3 ∷ 3 ∷ []) 74 ∷ [];
 }
 
@@ -140,10 +146,55 @@ rowK = record {
 unfoldable pub rowL : Row
 rowL = record {
   bytes = 0x12 ∷ 0x00 ∷ 0x03 ∷ 0x00 ∷ 0x0A ∷ 0xFF ∷ 0xFF ∷ 0x02 ∷ 0x00 ∷ 0x00 ∷ 0x00 ∷ 0x40 ∷ 0x23 ∷ 0x00 ∷ 0x32 ∷ 0x00 ∷ 0x40 ∷ 0x23 ∷ 0x00 ∷ 0x32 ∷ 0x00 ∷ 0x40 ∷ 0x03 ∷ 0x00 ∷ 0x32 ∷ 0x10 ∷ 0x20 ∷ 0x00 ∷ 0x04 ∷ 0x08 ∷ 0x00 ∷ 0x40 ∷ 0x00 ∷ 0x80 ∷ 0x20 ∷ 0x10 ∷ 0x00 ∷ [];
-  job = plainJob 3 1 4 50 closedPrice (record { pins = pin 1 0 0 ∷ pin 1 2 0 ∷ []; boxes = [] } ∷ record { pins = pin 0 1 0 ∷ pin 2 1 0 ∷ []; boxes = [] } ∷ []);
+  job = plainJob 3 1 4 3 50 closedPrice (record { pins = pin 1 0 0 ∷ pin 1 2 0 ∷ []; boxes = [] } ∷ record { pins = pin 0 1 0 ∷ pin 2 1 0 ∷ []; boxes = [] } ∷ []);
   records = join 4 (1 ∷ 1 ∷ []) 2 ∷ none ∷ [];
 }
 
 -- "All twelve are marked."
 unfoldable pub rows : List Row
 rows = rowA ∷ rowB ∷ rowC ∷ rowD ∷ rowE ∷ rowF ∷ rowG ∷ rowH ∷ rowI ∷ rowJ ∷ rowK ∷ rowL ∷ []
+
+pub record Edge : Type 0 where
+  pub bytes : List ℕ
+  pub reading : Read Job
+
+-- reading the bytes gives that
+abbrev pub IsEdge : Edge → Type 0
+IsEdge edge = readJob (edge .bytes) ≡ edge .reading
+
+-- "one layer of 128 by 128 passes"
+unfoldable pub largestGrid : Edge
+largestGrid = record {
+  bytes = 0x10 ∷ 0x7F ∷ 0x7F ∷ 0x00 ∷ 0x0A ∷ 0x00 ∷ 0x14 ∷ 0x01 ∷ 0x00 ∷ 0x00 ∷ 0x00 ∷ 0x40 ∷ 0x03 ∷ 0x00 ∷ 0x32 ∷ 0x10 ∷ 0x00 ∷ 0x00 ∷ 0x00 ∷ 0x00 ∷ 0x0C ∷ [];
+  reading = good (plainJob 1 128 128 3 50 20 (rowA .job .nets));
+}
+
+-- "129 by 128 is refused by 4"
+unfoldable pub largerGrid : Edge
+largerGrid = record {
+  bytes = 0x10 ∷ 0x80 ∷ 0x7F ∷ 0x00 ∷ 0x0A ∷ 0x00 ∷ 0x14 ∷ 0x01 ∷ 0x00 ∷ 0x00 ∷ 0x00 ∷ 0x40 ∷ 0x03 ∷ 0x00 ∷ 0x32 ∷ 0x10 ∷ 0x00 ∷ 0x00 ∷ 0x00 ∷ 0x00 ∷ 0x0C ∷ [];
+  reading = refused 4 8;
+}
+
+-- "M 1 passes"
+unfoldable pub leastM : Edge
+leastM = record {
+  bytes = 0x11 ∷ 0x07 ∷ 0x03 ∷ 0x00 ∷ 0x0A ∷ 0x00 ∷ 0x14 ∷ 0x01 ∷ 0x00 ∷ 0x00 ∷ 0x00 ∷ 0x40 ∷ 0x21 ∷ 0x00 ∷ 0x32 ∷ 0x00 ∷ 0x40 ∷ 0x01 ∷ 0x00 ∷ 0x32 ∷ 0x10 ∷ 0x00 ∷ 0x00 ∷ 0x00 ∷ 0x00 ∷ 0x0C ∷ [];
+  reading = good (plainJob 2 8 4 1 50 20 (rowA .job .nets));
+}
+
+-- "0 is refused by 5": at the first layer line's M
+unfoldable pub noM : Edge
+noM = record {
+  bytes = 0x11 ∷ 0x07 ∷ 0x03 ∷ 0x00 ∷ 0x0A ∷ 0x00 ∷ 0x14 ∷ 0x01 ∷ 0x00 ∷ 0x00 ∷ 0x00 ∷ 0x40 ∷ 0x20 ∷ 0x00 ∷ 0x32 ∷ 0x00 ∷ 0x40 ∷ 0x00 ∷ 0x00 ∷ 0x32 ∷ 0x10 ∷ 0x00 ∷ 0x00 ∷ 0x00 ∷ 0x00 ∷ 0x0C ∷ [];
+  reading = refused 5 100;
+}
+
+-- "Edges", each with A's net
+unfoldable pub edges : List Edge
+edges = largestGrid ∷ largerGrid ∷ leastM ∷ noM ∷ []
+
+-- every row is right, and every edge is read as it says
+pub record Marked : Type 0 where
+  pub routes : All Right rows
+  pub edges : All IsEdge edges

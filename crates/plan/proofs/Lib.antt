@@ -5,7 +5,7 @@
 --     NetsRead    reading the records of nets
 --     Unjoined    how many pins are unjoined
 --     Records     every record that routing writes is cheapest
---     Routed      the plan that routing makes of a good job is legal, and cheapest
+--     Routed      the plan that routing makes of a good job is legal, read as what routing gives, and cheapest
 pub mod TwoWay
 pub mod Moves
 pub mod JoinRead

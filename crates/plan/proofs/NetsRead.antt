@@ -2,8 +2,9 @@
 --     entryBits                        the bits of entries
 --     legal-apart, legal-fewer         after a legal join the tree and the unjoined pins are apart, and fewer pins are unjoined
 --     NetAt, net-good                  the records of a net that are read as good
---     EntriesRead, net-read            the entries of a net are read
---     NetsAt, nets-good, nets-read     the same of all nets
+--     netTotals, readTo, net-read      the entries of a net are read, with the totals after them
+--     NetsAt, nets-good                the records of all nets that are read as good
+--     jobMetal, jobTotals, nets-read   the entries of all nets are read, with the metal and the totals after them
 use Prim.Native.Nat.{ℕ, zero, suc, _+_, _≤_, _<_}
 use native.Mathlib.Nat.{add-zero}
 use native.Mathlib.Omega.{arith}
@@ -138,13 +139,15 @@ pub record NetAt (B : List ℕ) (j : Job) (k : ℕ) (s : Standing) (at : ℕ) (p
   pub stand : Placed B at (entryBits (j .grid) (p .entries))
   pub next : p .at ≡ at + length (entryBits (j .grid) (p .entries))
 
--- where these entries are read from a bit on: what is read, and that it is they
-pub record EntriesRead (g : Grid) (reads : Read Progress) (at : ℕ) (es : List Entry) (metal : List (List ℕ)) : Type 0 where
-  pub progress : Progress
-  pub is : reads ≡ good progress
-  pub entries : progress .entries ≡ es
-  pub left : progress .metal ≡ metal
-  pub next : progress .at ≡ at + length (entryBits g es)
+-- the totals after a net's entries
+unfoldable pub netTotals : {j : Job} {k : ℕ} {s : Standing} {es : List Entry} {metal : List (List ℕ)} → NetEntries j k s es metal → Totals → Totals
+netTotals (allJoined all left) totals = withNet totals
+netTotals (gaveUp some is left) totals = totals
+netTotals (joins l is rest) totals = netTotals rest (withJoin totals (l .sum))
+
+-- what is read where these entries stand from a bit on
+abbrev pub readTo : Grid → (at : ℕ) → List Entry → (metal : List (List ℕ)) → Totals → Progress
+readTo g at es metal totals = record { entries = es; metal = metal; totals = totals; at = at + length (entryBits g es) }
 
 module _ (B : List ℕ) (bits : AllBelow 2 B) {j : Job} (good-j : GoodJob j) (k : ℕ) where
   -- no record, where no pin is unjoined
@@ -223,13 +226,11 @@ module _ (B : List ℕ) (bits : AllBelow 2 B) {j : Job} (good-j : GoodJob j) (k 
   net-good (suc n) s totals at p apart few e = more-good n s totals at p apart few (unless-good (s .unjoined) _ _ p e) (net-good n)
 
   -- no entries
-  none-read : (n : ℕ) (s : Standing) (totals : Totals) (at : ℕ) {metal : List (List ℕ)} → s .unjoined ≡ [] → metal ≡ s .metal
-      → EntriesRead (j .grid) (readNet B j k n s totals at) at [] metal
+  none-read : (n : ℕ) (s : Standing) (totals : Totals) (at : ℕ) → s .unjoined ≡ []
+      → readNet B j k n s totals at ≡ good (readTo (j .grid) at [] (s .metal) (withNet totals))
   unfolding readNet unlessJoined concatBits
-  none-read zero s totals at all left =
-      record { progress = doneAt s totals at; is = refl; entries = refl; left = sym left; next = sym (add-zero at) }
-  none-read (suc n) s totals at all left =
-      record { progress = doneAt s totals at; is = rw all; entries = refl; left = sym left; next = sym (add-zero at) }
+  none-read zero s totals at all = rw add-zero
+  none-read (suc n) s totals at all = rw (all, add-zero)
 
   -- where a pin is unjoined, a record is read
   flagged-read : (n : ℕ) (s : Standing) (totals : Totals) (at : ℕ) (p : Progress) → (s .unjoined ≡ [] → ⊥) → T (whole B at 1)
@@ -240,66 +241,59 @@ module _ (B : List ℕ) (bits : AllBelow 2 B) {j : Job} (good-j : GoodJob j) (k 
       unless-some (s .unjoined) _ _ some ∙ then-good (group B at 1) _ p .1 (rule-good 15 at (whole B at 1) .1 w, e)
 
   -- an entry that says none
-  ended-read : (n : ℕ) (s : Standing) (totals : Totals) (at : ℕ) {metal : List (List ℕ)} → (s .unjoined ≡ [] → ⊥) → metal ≡ s .metal
-      → length (s .unjoined) ≤ n → Placed B at (entryBits (j .grid) (record { net = k; before = s; written = none } ∷ []))
-      → EntriesRead (j .grid) (readNet B j k n s totals at) at (record { net = k; before = s; written = none } ∷ []) metal
+  ended-read : (n : ℕ) (s : Standing) (totals : Totals) (at : ℕ) → (s .unjoined ≡ [] → ⊥) → length (s .unjoined) ≤ n
+      → Placed B at (entryBits (j .grid) (record { net = k; before = s; written = none } ∷ []))
+      → readNet B j k n s totals at ≡ good (readTo (j .grid) at (record { net = k; before = s; written = none } ∷ []) (s .metal) totals)
   unfolding byFlag concatBits recordBits
-  ended-read zero s totals at some left few stand = absurd (omega (arith, some-left (s .unjoined) some))
-  ended-read (suc n) s totals at some left few stand =
+  ended-read zero s totals at some few stand = absurd (omega (arith, some-left (s .unjoined) some))
+  ended-read (suc n) s totals at some few stand =
       let here = field-placed B at bits 1 0 (omega arith) .0 (placed-append B at (fieldBits 1 0) [] .0 stand .0, omega arith) in
-      let p = endedAt k s totals at in
-      record {
-        progress = p;
-        is = flagged-read n s totals at p some (here .0) (rw (here .1));
-        entries = refl;
-        left = sym left;
-        next = rw (length-append, length-fieldBits);
-      }
+      flagged-read n s totals at _ some (here .0) (rw (here .1, length-append, length-fieldBits))
 
   -- a join's entry and those that follow it, where these are read
   joined-read : (n : ℕ) (s : Standing) (totals : Totals) (at : ℕ) {after : Standing} {start cost : ℕ} {moves : List ℕ} {es : List Entry}
-      {metal : List (List ℕ)} → LegalJoin j k s start moves cost after → Stands (techOf j) s → length (s .unjoined) ≤ n
+      {metal : List (List ℕ)} {end : Totals} (l : LegalJoin j k s start moves cost after) → Stands (techOf j) s → length (s .unjoined) ≤ n
       → Placed B at (entryBits (j .grid) (record { net = k; before = s; written = join start moves cost } ∷ es))
-      → ((n : ℕ) (totals : Totals) (at : ℕ) → Stands (techOf j) after → length (after .unjoined) ≤ n → Placed B at (entryBits (j .grid) es)
-      → EntriesRead (j .grid) (readNet B j k n after totals at) at es metal)
-      → EntriesRead (j .grid) (readNet B j k n s totals at) at (record { net = k; before = s; written = join start moves cost } ∷ es) metal
+      → ((n at : ℕ) → Stands (techOf j) after → length (after .unjoined) ≤ n → Placed B at (entryBits (j .grid) es)
+      → readNet B j k n after (withJoin totals (l .sum)) at ≡ good (readTo (j .grid) at es metal end))
+      → readNet B j k n s totals at ≡ good (readTo (j .grid) at (record { net = k; before = s; written = join start moves cost } ∷ es) metal end)
   unfolding byFlag concatBits before
   joined-read zero s totals at l apart few stand rest-read = absurd (omega (arith, legal-fewer good-j k s apart l))
-  joined-read (suc n) s totals at {after} {start} {cost} {moves} {es} {metal} l apart few stand rest-read =
+  joined-read (suc n) s totals at {after} {start} {cost} {moves} {es} {metal} {end} l apart few stand rest-read =
       let g = j .grid in
       let parts = record-placed B at g start moves cost (entryBits g es) .0 stand in
       let here = field-placed B at bits 1 1 (omega arith) .0 (parts .0 .0, omega arith) in
       let read = readOf (at + 1) l in
       let fewer = legal-fewer good-j k s apart l in
       let reads = join-read good-j k s apart B bits (at + 1) l (parts .0 .1) in
-      let rest = rest-read n (withJoin totals (l .sum)) (read .next) (legal-apart good-j k s apart l) (omega arith) (parts .1) in
+      let rest = rest-read n (read .next) (legal-apart good-j k s apart l) (omega arith) (parts .1) in
       let (ends, costs) = legal-walk good-j k s apart l in
-      let p = before (joinedEntry k s read) (rest .progress) in
+      let p = readTo g at (record { net = k; before = s; written = join start moves cost } ∷ es) metal end in
+      let next : read .next + length (entryBits g es) ≡ p .at = omega (arith, length-record g start moves cost (entryBits g es)) in
       let goes : goesOn B j k n s totals read ≡ good p =
-      bind-good (readNet B j k n (joinedStanding k s read) (withJoin totals (l .sum)) (read .next)) _ p .1
-      (rest .progress, ap (λ (x : Standing). readNet B j k n x (withJoin totals (l .sum)) (read .next)) (sym (l .stands)) ∙ rest .is, refl) in
+      bind-good (readNet B j k n (joinedStanding k s read) (withJoin totals (l .sum)) (read .next)) _ p .1 (
+        readTo g (read .next) es metal end,
+        ap (λ (x : Standing). readNet B j k n x (withJoin totals (l .sum)) (read .next)) (sym (l .stands)) ∙ rest,
+        λ i. good (record {
+          entries = record { net = k; before = s; written = join start moves (costs i) } ∷ es;
+          metal = metal;
+          totals = end;
+          at = next i;
+        }),
+      ) in
       let some : s .unjoined ≡ [] → ⊥ = λ h. omega (arith, ap length h) in
-      record {
-        progress = p;
-        is =
-            flagged-read n s totals at p some (here .0)
-            (rw (here .1) (bind-good (readJoin B j k s (at + 1)) (goesOn B j k n s totals) p .1 (read, reads, goes)));
-        entries = λ i. record { net = k; before = s; written = join start moves (costs i) } ∷ rest .entries i;
-        left = rest .left;
-        next = omega (arith, rest .next, length-record g start moves cost (entryBits g es));
-      }
+      flagged-read n s totals at p some (here .0)
+      (rw (here .1) (bind-good (readJoin B j k s (at + 1)) (goesOn B j k n s totals) p .1 (read, reads, goes)))
 
   -- the entries of a net are read
-  pub net-read : {s : Standing} {es : List Entry} {metal : List (List ℕ)} → NetEntries j k s es metal → (n : ℕ) (totals : Totals) (at : ℕ)
+  pub net-read : {s : Standing} {es : List Entry} {metal : List (List ℕ)} (d : NetEntries j k s es metal) (totals : Totals) (n at : ℕ)
       → Stands (techOf j) s → length (s .unjoined) ≤ n → Placed B at (entryBits (j .grid) es)
-      → EntriesRead (j .grid) (readNet B j k n s totals at) at es metal
-  net-read (allJoined {s = s} all left) n totals at apart few stand = none-read n s totals at all left
-  net-read (gaveUp {s = s} {metal = metal} {e = e} some is left) n totals at apart few stand =
-      subst (λ (x : Entry). Placed B at (entryBits (j .grid) (x ∷ [])) → EntriesRead (j .grid) (readNet B j k n s totals at) at (x ∷ []) metal) (sym is)
-      (ended-read n s totals at some left few) stand
-  net-read (joins {s = s} {after = after} {e = e} {es = es} {metal = metal} l is rest) n totals at apart few stand =
-      subst (λ (x : Entry). Placed B at (entryBits (j .grid) (x ∷ es)) → EntriesRead (j .grid) (readNet B j k n s totals at) at (x ∷ es) metal) (sym is)
-      (λ st. joined-read n s totals at l apart few st (net-read rest)) stand
+      → readNet B j k n s totals at ≡ good (readTo (j .grid) at es metal (netTotals d totals))
+  unfolding netTotals
+  net-read (allJoined {s = s} all left) totals n at apart few stand = rw left (none-read n s totals at all)
+  net-read (gaveUp {s = s} some is left) totals n at apart few stand = rw (is, left) (ended-read n s totals at some few (rw is at stand))
+  net-read (joins {s = s} l is rest) totals n at apart few stand =
+      rw is (joined-read n s totals at l apart few (rw is at stand) (net-read rest (withJoin totals (l .sum))))
 
 -- ---- all nets
 
@@ -308,6 +302,16 @@ pub record NetsAt (B : List ℕ) (j : Job) (k : ℕ) (nets : List Net) (metal : 
   pub entries : JobEntries j k nets metal (p .entries)
   pub stand : Placed B at (entryBits (j .grid) (p .entries))
   pub next : p .at ≡ at + length (entryBits (j .grid) (p .entries))
+
+-- the metal after the entries of all nets
+unfoldable pub jobMetal : {j : Job} {k : ℕ} {nets : List Net} {metal : List (List ℕ)} {es : List Entry} → JobEntries j k nets metal es → List (List ℕ)
+jobMetal (noNets {metal = metal}) = metal
+jobMetal (nextNet n r is) = jobMetal r
+
+-- and the totals
+unfoldable pub jobTotals : {j : Job} {k : ℕ} {nets : List Net} {metal : List (List ℕ)} {es : List Entry} → JobEntries j k nets metal es → Totals → Totals
+jobTotals noNets totals = totals
+jobTotals (nextNet n r is) totals = jobTotals r (netTotals n totals)
 
 module _ (B : List ℕ) (bits : AllBelow 2 B) {j : Job} (good-j : GoodJob j) where
   -- every net begins with its tree and its unjoined pins apart
@@ -352,57 +356,22 @@ module _ (B : List ℕ) (bits : AllBelow 2 B) {j : Job} (good-j : GoodJob j) whe
       (nets-good (suc k) nets (this .metal) (this .totals) (this .at) rest (begin .1) rests)
       same
 
-  -- the entries of a net and of those after it
-  next-read : (k : ℕ) (net : Net) (nets : List Net) (metal : List (List ℕ)) (totals : Totals) (at : ℕ) (after : List (List ℕ))
-      (own others : List Entry)
-      → EntriesRead (j .grid) (readNet B j k (length (pinsOf (j .grid) net)) (begun (pinsOf (j .grid) net) metal) totals at) at own after
-      → ((totals : Totals) (at : ℕ) → Placed B at (entryBits (j .grid) others)
-      → (end : List (List ℕ)) × EntriesRead (j .grid) (readNets B j (suc k) nets after totals at) at others end)
-      → Placed B (at + length (entryBits (j .grid) own)) (entryBits (j .grid) others)
-      → (end : List (List ℕ)) × EntriesRead (j .grid) (readNets B j k (net ∷ nets) metal totals at) at (own ++ others) end
-  unfolding readNets
-  next-read k net nets metal totals at after own others one rest-read stand =
-      let this = one .progress in
-      let (end, rest) = rest-read (this .totals) (at + length (entryBits (j .grid) own)) stand in
-      let p : Progress =
-      record {
-        entries = this .entries ++ rest .progress .entries;
-        metal = rest .progress .metal;
-        totals = rest .progress .totals;
-        at = rest .progress .at;
-      } in
-      let pins = pinsOf (j .grid) net in
-      let there : readNets B j (suc k) nets (this .metal) (this .totals) (this .at) ≡ good (rest .progress) =
-      (λ i. readNets B j (suc k) nets (one .left i) (this .totals) (one .next i)) ∙ rest .is in (
-        end,
-        record {
-          progress = p;
-          is =
-              bind-good (readNet B j k (length pins) (begun pins metal) totals at) _ p .1
-              (this, one .is, bind-good (readNets B j (suc k) nets (this .metal) (this .totals) (this .at)) _ p .1 (rest .progress, there, refl));
-          entries = λ i. one .entries i ++ rest .entries i;
-          left = rest .left;
-          next = omega (arith, rest .next, both-length own others);
-        },
-      )
-
   -- the entries of all nets are read
-  pub nets-read : {k : ℕ} {nets : List Net} {metal : List (List ℕ)} {es : List Entry} → JobEntries j k nets metal es → Begin nets
+  pub nets-read : {k : ℕ} {nets : List Net} {metal : List (List ℕ)} {es : List Entry} (d : JobEntries j k nets metal es) → Begin nets
       → (totals : Totals) (at : ℕ) → Placed B at (entryBits (j .grid) es)
-      → (end : List (List ℕ)) × EntriesRead (j .grid) (readNets B j k nets metal totals at) at es end
-  unfolding readNets All concatBits
-  nets-read (noNets {k = k} {metal = metal}) begin totals at stand = (
-    metal,
-    record {
-      progress = record { entries = []; metal = metal; totals = totals; at = at };
-      is = refl;
-      entries = refl;
-      left = refl;
-      next = sym (add-zero at);
-    },
-  )
-  nets-read (nextNet {k = k} {net = net} {nets = nets} {metal = metal} {after = after} {own = own} {others = others} n r is) begin totals at stand =
+      → readNets B j k nets metal totals at ≡ good (readTo (j .grid) at es (jobMetal d) (jobTotals d totals))
+  unfolding jobMetal jobTotals readNets All concatBits _>>=_
+  nets-read (noNets {k = k} {metal = metal}) begin totals at stand = rw add-zero
+  nets-read (nextNet {k = k} {net = net} {nets = nets} {metal = metal} {own = own} {others = others} n r is) begin totals at stand =
       let pins = pinsOf (j .grid) net in
       let parts = both-placed at own others .0 (rw is at stand) in
-      let one = net-read B bits good-j k n (length pins) totals at (begin .0 metal) (begun-length pins metal) (parts .0) in
-      rw is (next-read k net nets metal totals at after own others one (nets-read r (begin .1)) (parts .1))
+      let one = net-read B bits good-j k n totals (length pins) at (begin .0 metal) (begun-length pins metal) (parts .0) in
+      let rest = nets-read r (begin .1) (netTotals n totals) (at + length (entryBits (j .grid) own)) (parts .1) in
+      let next : at + length (entryBits (j .grid) own) + length (entryBits (j .grid) others) ≡ at + length (entryBits (j .grid) (own ++ others)) =
+      omega (arith, both-length own others) in
+      rw (is, one, rest) (λ i. good (record {
+        entries = own ++ others;
+        metal = jobMetal r;
+        totals = jobTotals r (netTotals n totals);
+        at = next i;
+      }))

@@ -1,15 +1,18 @@
--- The plan that routing makes of a good job is legal, and every record in it is cheapest.
---     routing-entries          routing's entries are the nets' in order, each legal against what the earlier ones make
+-- The plan that routing makes of a good job is legal, it is read as what routing gives, and every record in it is cheapest.
+--     NetsRouted               what was routed of some nets is their entries, with the metal and the totals after them
+--     routing-entries          so is what was routed of a job
 --     routing-legal            routing's plan is legal
+--     routing-read             and read as what routing gives
 --     routing-plan-cheapest    and cheapest
 use Prim.Native.Nat.{ℕ, zero, suc, _≤_}
-use mathlib.Core.Path.{_≡_, refl, sym, _∙_}
+use mathlib.Core.Path.{_≡_, refl, sym, ap, _∙_}
 use mathlib.Core.List.{List, [], _∷_}
 use native.Mathlib.Omega.{arith}
 use lib.ListN.{length}
 use Rattle.job.specs.Lists.{All}
 use Rattle.job.specs.Job.{Net, Job}
 use Rattle.job.specs.Good.{GoodJob}
+use Rattle.job.specs.Reading.{good}
 use Rattle.rules.specs.Views.{pinsOf, viewOf}
 use Rattle.rules.specs.Prices.{techOf}
 use Rattle.rules.specs.Joins.{Record, join, none, joinOf}
@@ -21,31 +24,43 @@ use Rattle.rules.proofs.Walks.{route-walk}
 use Rattle.rules.proofs.Joins.{join-route, join-fits}
 use Rattle.rules.proofs.Standing.{Stands, nets-apart, joined-apart}
 use Rattle.plan.specs.Layout.{planOf}
+use Rattle.plan.specs.Reading.{readPlan}
 use Rattle.plan.specs.Legal.{NetEntries, allJoined, gaveUp, joins, JobEntries, noNets, nextNet, LegalPlan}
 use Rattle.plan.specs.Claim.{Cheapest}
 use Rattle.plan.proofs.Unjoined.{without-shorter, none-left, begun-length}
+use Rattle.plan.proofs.NetsRead.{netTotals, jobMetal, jobTotals}
+use Rattle.plan.proofs.TwoWay.{plan-below, plan-read}
 use Rattle.plan.proofs.Records.{routing-cheapest}
+
+-- what was routed from a standing of net k is its entries, with the metal and the totals after them
+abbrev NetRouted : Job → (k : ℕ) → Standing → Totals → Routed → Type 0
+NetRouted j k s totals r = (d : NetEntries j k s (r .entries) (r .metal)) × (netTotals d totals ≡ r .totals)
+
+-- what was routed of the nets from the k-th on is their entries, with the metal and the totals after them
+pub record NetsRouted (j : Job) (k : ℕ) (nets : List Net) (metal : List (List ℕ)) (totals : Totals) (r : Routed) : Type 0 where
+  pub entries : JobEntries j k nets metal (r .entries)
+  pub left : jobMetal entries ≡ r .metal
+  pub ends : jobTotals entries totals ≡ r .totals
 
 -- ---- the entries of a good job
 
-module _ {j : Job} (good : GoodJob j) where
+module _ {j : Job} (good-j : GoodJob j) where
   -- its layers are good
   tech : GoodTech (techOf j)
-  tech = good-tech good
+  tech = good-tech good-j
 
-  -- what follows a standing of net k is its entries, where tree and pins are apart and at most n pins are unjoined
+  -- what follows a standing of net k is so, where tree and pins are apart and at most n pins are unjoined
   NetFrom : (k n : ℕ) → (Standing → Totals → Routed) → Type 0
   NetFrom k n rest =
-      (s : Standing) (totals : Totals) → Stands (techOf j) s → length (s .unjoined) ≤ n
-      → NetEntries j k s (rest s totals .entries) (rest s totals .metal)
+      (s : Standing) (totals : Totals) → Stands (techOf j) s → length (s .unjoined) ≤ n → NetRouted j k s totals (rest s totals)
 
   -- a record and those that follow it
   record-entries : (k n : ℕ) (s : Standing) (totals : Totals) (rest : Standing → Totals → Routed) (r : Record) → Stands (techOf j) s
       → (s .unjoined ≡ [] → ⊥) → length (s .unjoined) ≤ suc n
       → joinOf (techOf j) (viewOf j k (s .metal)) (s .tree) (s .unjoined) ≡ r → NetFrom k n rest
-      → NetEntries j k s (byRecord j k s totals rest r .entries) (byRecord j k s totals rest r .metal)
-  unfolding byRecord withEntry afterJoin NetFrom joinedBy
-  record-entries k n s totals rest none apart some few is follows = gaveUp some refl refl
+      → NetRouted j k s totals (byRecord j k s totals rest r)
+  unfolding byRecord withEntry afterJoin NetFrom joinedBy netTotals
+  record-entries k n s totals rest none apart some few is follows = (gaveUp some refl refl, refl)
   record-entries k n s totals rest (join start moves cost) apart some few is follows =
       let view = viewOf j k (s .metal) in
       let route = join-route tech view apart is in
@@ -54,14 +69,19 @@ module _ {j : Job} (good : GoodJob j) where
       let fewer = without-shorter (w .last .vertex) (s .unjoined) (w .ends) in
       let after = joinedBy k s (w .last .vertex) (w .sum) in
       let left = joined-apart k s tech apart route (w .does) in
-      rw (w .does)
-      (joins (record { route = route; count = fits .0; priced = fits .1; last = w .last; sum = w .sum; walked = w .does; stands = refl }) refl
-      (follows after (withJoin totals (w .sum)) left (omega arith)))
+      let (others, ends) = follows after (withJoin totals (w .sum)) left (omega arith) in
+      rw (w .does) (
+        joins
+            (record { route = route; count = fits .0; priced = fits .1; last = w .last; sum = w .sum; walked = w .does; stands = refl })
+            refl
+            others,
+        ends,
+      )
 
   -- the records of a net
   net-entries : (k n : ℕ) → NetFrom k n (routeNet j k n)
-  unfolding routeNet NetFrom
-  net-entries k zero s totals apart few = allJoined (none-left (s .unjoined) few) refl
+  unfolding routeNet NetFrom netTotals
+  net-entries k zero s totals apart few = (allJoined (none-left (s .unjoined) few) refl, refl)
   net-entries k (suc n) s totals apart few = by (s .unjoined) refl (net-entries k n)
     where
       routed : List ℕ → Routed
@@ -71,8 +91,8 @@ module _ {j : Job} (good : GoodJob j) where
             | p ∷ ps ↦ byRecord j k s totals (routeNet j k n) (joinOf (techOf j) (viewOf j k (s .metal)) (s .tree) (p ∷ ps))
           ]
 
-      by : (u : List ℕ) → s .unjoined ≡ u → NetFrom k n (routeNet j k n) → NetEntries j k s (routed u .entries) (routed u .metal)
-      by [] e follows = allJoined e refl
+      by : (u : List ℕ) → s .unjoined ≡ u → NetFrom k n (routeNet j k n) → NetRouted j k s totals (routed u)
+      by [] e follows = (allJoined e refl, refl)
       by (p ∷ ps) e follows =
           record-entries k n s totals (routeNet j k n) (joinOf (techOf j) (viewOf j k (s .metal)) (s .tree) (p ∷ ps)) apart
           (λ no. let same : p ∷ ps ≡ [] = sym e ∙ no in let z : _≡_ {A = ℕ} 0 1 = cc in omega arith) few (rw e) follows
@@ -80,28 +100,36 @@ module _ {j : Job} (good : GoodJob j) where
   -- the records of some nets
   nets-entries : (k : ℕ) (nets : List Net) (metal : List (List ℕ)) (totals : Totals)
       → All (λ net. (m : List (List ℕ)) → Stands (techOf j) (begun (pinsOf (j .grid) net) m)) nets
-      → JobEntries j k nets metal (routeNets j k nets metal totals .entries)
-  unfolding routeNets All NetFrom
-  nets-entries k [] metal totals h = noNets
+      → NetsRouted j k nets metal totals (routeNets j k nets metal totals)
+  unfolding routeNets All NetFrom jobMetal jobTotals
+  nets-entries k [] metal totals h = record { entries = noNets; left = refl; ends = refl }
   nets-entries k (net ∷ nets) metal totals h =
       let pins = pinsOf (j .grid) net in
       let this = routeNet j k (length pins) (begun pins metal) totals in
-      nextNet (net-entries k (length pins) (begun pins metal) totals (h .0 metal) (begun-length pins metal))
-      (nets-entries (suc k) nets (this .metal) (this .totals) (h .1)) refl
+      let (own, ends) = net-entries k (length pins) (begun pins metal) totals (h .0 metal) (begun-length pins metal) in
+      let rest = nets-entries (suc k) nets (this .metal) (this .totals) (h .1) in
+      record { entries = nextNet own (rest .entries) refl; left = rest .left; ends = ap (jobTotals (rest .entries)) ends ∙ rest .ends }
 
-  -- routing's entries are the nets' in order, each legal against what the earlier ones make
-  pub routing-entries : JobEntries j 0 (j .nets) (metalAtFirst j) (routing j .entries)
+  -- routing's entries are the nets' in order, each legal against what the earlier ones make, with its metal and totals after them
+  pub routing-entries : NetsRouted j 0 (j .nets) (metalAtFirst j) noTotals (routing j)
   unfolding routing
-  routing-entries = nets-entries 0 (j .nets) (metalAtFirst j) noTotals (nets-apart good)
+  routing-entries = nets-entries 0 (j .nets) (metalAtFirst j) noTotals (nets-apart good-j)
 
   -- ---- its plan
 
   -- routing's plan is legal
   pub routing-legal : LegalPlan j (planOf j)
   unfolding planOf
-  routing-legal = record { entries = routing j .entries; nets = routing-entries; bits = refl }
+  routing-legal = record { entries = routing j .entries; nets = routing-entries .entries; bits = refl }
+
+  -- routing's plan is read as what routing gives: its entries, its metal and its totals
+  pub routing-read : readPlan j (planOf j) ≡ good (routing j)
+  unfolding routing-legal planOf
+  routing-read =
+      plan-read j (planOf j) good-j (plan-below (j .grid) (routing j .entries)) routing-legal
+      ∙ (λ i. good (record { entries = routing j .entries; metal = routing-entries .left i; totals = routing-entries .ends i }))
 
   -- every record in routing's plan is cheapest
   pub routing-plan-cheapest : Cheapest j (planOf j)
   unfolding routing-legal
-  routing-plan-cheapest = record { plan = routing-legal; cheapest = routing-cheapest good }
+  routing-plan-cheapest = record { plan = routing-legal; cheapest = routing-cheapest good-j }

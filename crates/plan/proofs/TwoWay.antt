@@ -1,16 +1,17 @@
 -- Reading a plan against a good job accepts exactly the legal plans.
+--     plan-below                  a plan's bytes are below 256
 --     plan-legal                  a plan that is read is legal, with the entries that are read
---     plan-read                   a legal plan is read, with its entries
+--     madeBy, plan-read           a legal plan is read, with its entries and the metal and the totals after them
 --     plan-two-way                the law
 --     plan-entries, plan-only     the entries of a legal plan are those that are read, and the only ones
 use Prim.Native.Nat.{ℕ, _-_, _<_}
 use native.Mathlib.Nat.{zero-add}
-use mathlib.Core.Path.{_≡_, refl, sym, _∙_}
+use mathlib.Core.Path.{_≡_, refl, _∙_}
 use mathlib.Core.Logic.{_↔_}
 use mathlib.Core.List.{List, map}
 use lib.ListN.{length, drop}
 use Rattle.bits.specs.Bits.{number, bitsOf, fieldBits, AllBelow}
-use Rattle.bits.proofs.Laws.{fieldBits-bits, below-append, bitsOf-bits}
+use Rattle.bits.proofs.Laws.{fieldBits-bits, below-append, bitsOf-bits, packBits-bytes}
 use Rattle.job.specs.Grid.{Grid}
 use Rattle.job.specs.Job.{Job}
 use Rattle.job.specs.Good.{GoodJob}
@@ -25,7 +26,7 @@ use Rattle.rules.proofs.Standing.{nets-apart}
 use Rattle.plan.specs.Layout.{recordBits, planBytes}
 use Rattle.plan.specs.Reading.{Progress, readPlan}
 use Rattle.plan.specs.Legal.{LegalPlan}
-use Rattle.plan.proofs.NetsRead.{entryBits, NetsAt, nets-good, nets-read}
+use Rattle.plan.proofs.NetsRead.{entryBits, NetsAt, nets-good, jobMetal, jobTotals, nets-read}
 
 -- each of a record's bits is 0 or 1
 record-below : (g : Grid) (r : Record) → AllBelow 2 (recordBits g r)
@@ -37,6 +38,15 @@ record-below g (join start moves cost) =
 -- and each of the bits of entries
 entries-below : (g : Grid) (es : List Entry) → AllBelow 2 (entryBits g es)
 entries-below g es = concat-below (recordBits g) (record-below g) (map (λ (e : Entry). e .written) es)
+
+-- so the bytes that they are packed to are bytes
+pub plan-below : (g : Grid) (es : List Entry) → AllBelow 256 (planBytes g (map (λ (e : Entry). e .written) es))
+unfolding planBytes
+plan-below g es = packBits-bytes (entryBits g es) (entries-below g es)
+
+-- what a legal plan makes: its entries, and the metal and the totals after them
+abbrev pub madeBy : {j : Job} {bytes : List ℕ} → LegalPlan j bytes → Routed
+madeBy plan = record { entries = plan .entries; metal = jobMetal (plan .nets); totals = jobTotals (plan .nets) noTotals }
 
 module _ (j : Job) (bytes : List ℕ) (good-j : GoodJob j) (below : AllBelow 256 bytes) where
   -- what was read of a plan, with its tail
@@ -66,31 +76,28 @@ module _ (j : Job) (bytes : List ℕ) (good-j : GoodJob j) (below : AllBelow 256
       (nets-good (bitsOf bytes) (bitsOf-bits bytes) good-j 0 (j .nets) (metalAtFirst j) noTotals 0 all (nets-apart good-j) reads) tail in
       (plan, is ∙ (λ i. same i .entries)))
 
-  -- a legal plan is read, with its entries
-  pub plan-read : (plan : LegalPlan j bytes) → (r : Routed) × (readPlan j bytes ≡ good r) × (r .entries ≡ plan .entries)
+  -- a legal plan is read, with what it makes
+  pub plan-read : (plan : LegalPlan j bytes) → readPlan j bytes ≡ good (madeBy plan)
   unfolding readPlan planBytes
   plan-read plan =
       let B = bitsOf bytes in
       let here = entryBits (j .grid) (plan .entries) in
       let filled = filled-packed bytes here below (entries-below (j .grid) (plan .entries)) .1 (plan .bits) in
       let parts = filled-tail B here (bitsOf-bits bytes) .0 filled in
-      let (metal, read) = nets-read B (bitsOf-bits bytes) good-j (plan .nets) (nets-apart good-j) noTotals 0 (parts .0) in
-      let all = read .progress in
-      let end : length here ≡ all .at = sym (read .next ∙ zero-add (length here)) in
-      let r : Routed = record { entries = all .entries; metal = all .metal; totals = all .totals } in
-      (r, simp (steps, tests) (all, read .is, (rw end at (parts .1), refl)), read .entries)
+      let read = nets-read B (bitsOf-bits bytes) good-j (plan .nets) (nets-apart good-j) noTotals 0 (parts .0) in
+      simp (steps, tests) (_, read, (rw zero-add (parts .1), refl))
 
   -- the law
   pub plan-two-way : ((r : Routed) × (readPlan j bytes ≡ good r)) ↔ LegalPlan j bytes
-  plan-two-way = (λ (r, e). plan-legal r e .0, λ plan. let (r, e, same) = plan-read plan in (r, e))
+  plan-two-way = (λ (r, e). plan-legal r e .0, λ plan. (madeBy plan, plan-read plan))
 
   -- the entries of a legal plan are those that are read
   pub plan-entries : (r : Routed) → readPlan j bytes ≡ good r → (plan : LegalPlan j bytes) → plan .entries ≡ r .entries
   plan-entries r e plan =
-      let (q, f, same) = plan-read plan in
-      let one : q ≡ r = cc in
-      sym same ∙ (λ i. one i .entries)
+      let reads = plan-read plan in
+      let one : madeBy plan ≡ r = cc in
+      λ i. one i .entries
 
   -- and the only ones
   pub plan-only : (p q : LegalPlan j bytes) → p .entries ≡ q .entries
-  plan-only p q = let (r, e, same) = plan-read q in plan-entries r e p ∙ same
+  plan-only p q = plan-entries (madeBy q) (plan-read q) p
