@@ -84,7 +84,7 @@ pub one-more : (n : ℕ) → n + 1 ≡ suc n
 one-more n = omega arith
 
 -- a choice of two numbers below a limit is below it
-either-below : (b : Bool) {x y limit : ℕ} → x < limit → y < limit → cond b x y < limit
+pub either-below : (b : Bool) {x y limit : ℕ} → x < limit → y < limit → cond b x y < limit
 either-below true hx hy = hx
 either-below false hx hy = hy
 

@@ -15,6 +15,8 @@
 --     Standing       the tree and the unjoined pins are apart in every standing
 --     Entries        every record that routing writes is the join of what stands
 --     Fitting        numbers of a vertex that fit a word, for the code
+--     Held           what the code holds of a net's view, of layers and of prices
+--     Runs           counting clear vertices on both sides of a vertex
 --     Certificates   a table of costs as data, shown to be a table by a test
 pub mod Vertices
 pub mod Neighbours
@@ -33,4 +35,5 @@ pub mod Standing
 pub mod Entries
 pub mod Certificates
 pub mod Fitting
+pub mod Held
 pub mod Runs

@@ -1,4 +1,5 @@
 -- The price of entering a vertex.
+--     penalty-below     a penalty that is not closed fits its field
 --     base-fits         the wire price or the via price is from 1 to 1,023
 --     entering-fits     with the penalties that are not closed, from 1 to 132,091
 use Prim.Native.Nat.{ℕ, zero, suc, _+_, _≤_, _<_}
@@ -31,6 +32,13 @@ penalty-fits true p h = by (eqb p closedPrice) refl
     by true e = tt
     by false e = let ne : p ≡ 65535 → ⊥ = eqb-false _ _ e in omega arith
 penalty-fits false p h = omega arith
+
+-- so a price that it charges fits its field
+pub penalty-below : (applies : Bool) (p : ℕ) {n : ℕ} → p < 65536 → penalty applies p ≡ fin n → n < 65536
+unfolding NotClosed
+penalty-below applies p {n} h e =
+    let fits : n ≤ 65534 = rw e at (penalty-fits applies p h) in
+    omega arith
 
 -- a price with two penalties: at least the price, at most so much more
 with-penalties : (b : ℕ) (x y : Cost) {n : ℕ} → NotClosed x → NotClosed y → plus b (sumCost x y) ≡ fin n → (b ≤ n) × (n ≤ b + 131068)

@@ -1,5 +1,4 @@
 -- Counting clear vertices on both sides of a vertex.
---     seen-clear                      a vertex of the grid is clear where its byte says so
 --     runsTo                          the counts once the sides below one are done
 --     Counting, counting-begun        the count of a side so far
 --     counting-on                     one clear vertex more
@@ -9,21 +8,14 @@ use mathlib.Core.Path.{_≡_, refl, sym, ap, _∙_}
 use mathlib.Core.List.{List, [], _∷_}
 use mathlib.Core.Bool.{true, false}
 use native.Mathlib.Omega.{arith}
-use lib.ListN.{length, getD, set}
-use borrow.Author.Tests.{lt-ltb}
+use lib.ListN.{length, set}
 use Rattle.job.specs.Grid.{Grid, vertices}
 use Rattle.rules.specs.Tracks.{outside, at, entered}
 use Rattle.rules.specs.Views.{View}
 use Rattle.rules.specs.Segments.{Direction, low, high}
 use Rattle.rules.specs.Overheads.{clear, toward, onFrom, clearRun}
-use Rattle.rules.specs.Seen.{clearByte, viewBy}
 use Rattle.rules.specs.Structs.{runsOf}
 use Rattle.rules.proofs.Neighbours.{entered-below}
-
--- a vertex of the grid is clear where its byte says so
-pub seen-clear : (g : Grid) (seen : List ℕ) (v : ℕ) → v < vertices g → clear (viewBy g seen) v ≡ clearByte (getD seen v 0)
-unfolding clear viewBy clearByte
-seen-clear g seen v h = rw (lt-ltb v (vertices g) h)
 
 -- a side by the number of its move
 unfoldable pub sideOf : ℕ → Direction

@@ -1,6 +1,7 @@
 // The rules of moves and prices.
 pub mod guide;
 pub mod overhead;
+pub mod price;
 pub mod seen;
 pub mod segment;
 pub mod track;

@@ -8,7 +8,8 @@ use Rattle.job.specs.Structs.{gridOf}
 use Rattle.rules.specs.Seen.{viewBy}
 use Rattle.rules.proofs.Fitting.{one-more, entered-outside, entered-at}
 use Rattle.rules.proofs.Neighbours.{entered-below}
-use Rattle.rules.proofs.Runs.{seen-clear, runsTo, runs-both, Counting, counting-begun, counting-on, counting-outside, counting-unclear, counting-full}
+use Rattle.rules.proofs.Held.{seen-clear}
+use Rattle.rules.proofs.Runs.{runsTo, runs-both, Counting, counting-begun, counting-on, counting-outside, counting-unclear, counting-full}
 use Rattle.rules.proofs.overhead.clear_runs.Statement.{statement}
 use Rattle.rules.proofs.overhead.clear_runs.Tie as tie
 
