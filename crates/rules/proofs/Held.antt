@@ -1,10 +1,11 @@
 -- What the code holds of a net's view, of layers and of prices.
 --     seen-blocked, seen-clear, seen-taken, seen-outside   a vertex of the grid is so where its byte says so
 --     on-grid, in-array, line-held, line-fits              the layer line of a vertex
+--     extension-fits                                       the price of an extension
 --     from-cost                                            a penalty from its field is what that charges
 --     guide-held, short-held, base-below                   the parts of the price of entering
 --     entering-priced, -guide-closed, -short-closed        their sum
-use Prim.Native.Nat.{ℕ, zero, suc, _+_, _-_, _<_}
+use Prim.Native.Nat.{ℕ, zero, suc, _+_, _-_, _*_, _≤_, _<_}
 use mathlib.Core.Path.{_≡_, refl, sym, ap, subst, _∙_}
 use mathlib.Core.List.{List}
 use mathlib.Core.Bool.{Bool, true, false, not, cond}
@@ -17,10 +18,12 @@ use Rattle.job.specs.Grid.{Grid, vertices}
 use Rattle.job.specs.Job.{Layer, closedPrice}
 use Rattle.job.specs.Good.{GoodLayer}
 use Rattle.job.specs.Structs.{gridOf, layerStruct, penaltyOf}
+use Rattle.job.specs.declared.groups.Layer.{Layer as LayerStruct}
 use Rattle.job.specs.declared.layers.Layers.{Layers}
 use Rattle.job.specs.declared.penalty.Penalty.{Penalty}
 use Rattle.job.specs.declared.penalty.Penalty.the-variants.{Closed, Price}
 use Rattle.paths.specs.Distances.{Cost, fin, inf}
+use Rattle.job.proofs.Sizes.{product-within}
 use Rattle.rules.specs.Tracks.{layerOf}
 use Rattle.rules.specs.Views.{View}
 use Rattle.rules.specs.Prices.{Tech, lineOf, charge, penalty, base, guideAt, shortAt, sumCost, entering}
@@ -91,6 +94,14 @@ module _ {t : TechStruct} {v : ℕ} (fits : TechFits t) (h : v < vertices (gridO
   pub line-fits : GoodLayer (t .grid .layers - suc (layerOf (gridOf (t .grid)) v)) (lineOf (techBy t) v)
   unfolding techBy
   line-fits = line-good (fits .good) h
+
+-- the price of an extension fits
+pub extension-fits : {t : TechStruct} {v n : ℕ} {line : LayerStruct} → TechFits t → v < vertices (gridOf (t .grid))
+    → line ≡ layerStruct (lineOf (techBy t) v) → n < 16 → line .wire * n ≤ 16384
+extension-fits {line = line} fits h is few =
+    let wire = ap (λ (l : LayerStruct). l .wire) is in
+    let below : line .wire ≤ 1024 = omega (arith, wire, line-fits fits h .wire) in
+    product-within 1024 16 below (omega arith)
 
 -- ---- prices
 

@@ -37,3 +37,5 @@ pub mod Certificates
 pub mod Fitting
 pub mod Held
 pub mod Runs
+pub mod Owed
+pub mod Stepping

@@ -1,5 +1,6 @@
 -- The forms in which the code holds vertices and moves.
 use Prim.Native.Nat.{ℕ, zero, suc, _<_}
+use mathlib.Core.Path.{_≡_}
 use mathlib.Core.List.{List, [], _∷_}
 use lib.ListN.{length, getD}
 use Rattle.job.specs.Grid.{Grid, Vertex, vertices, strideOf}
@@ -15,14 +16,21 @@ use Rattle.job.specs.declared.penalty.Penalty.the-variants.{Closed, Price}
 use Rattle.rules.specs.declared.price.Tech.{Tech as TechStruct}
 use Rattle.rules.specs.Tracks.{placeOn, lengthOn, Entered, outside, at}
 use Rattle.rules.specs.Views.{View}
-use Rattle.rules.specs.Segments.{Direction, low, high, Segment, fresh, running, paid, paidToward, Grown, back, grown}
-use Rattle.rules.specs.Overheads.{clearRun}
+use Rattle.rules.specs.Segments.{Direction, low, high, Segment, fresh, running, paid, paidToward, Place, Grown, back, grown}
+use Rattle.rules.specs.Overheads.{clearRun, Overhead, nothing, lengthened, penalised, forbidden}
 use Rattle.rules.specs.declared.segment.Direction.{Direction as DirectionEnum}
 use Rattle.rules.specs.declared.segment.Direction.the-variants.{Low, High}
 use Rattle.rules.specs.declared.segment.Segment.{Segment as SegmentEnum}
 use Rattle.rules.specs.declared.segment.Segment.the-variants.{Fresh, Running, Paid, PaidToward}
 use Rattle.rules.specs.declared.segment.Grown.{Grown as GrownEnum}
 use Rattle.rules.specs.declared.segment.Grown.the-variants as Grow
+use Rattle.rules.specs.Steps.{Made, Stepped, illegal, legal}
+use Rattle.rules.specs.declared.step.Place.{Place as PlaceStruct}
+use Rattle.rules.specs.declared.step.Made.{Made as MadeStruct}
+use Rattle.rules.specs.declared.step.Stepped.{Stepped as SteppedEnum}
+use Rattle.rules.specs.declared.step.Stepped.the-variants.{Illegal, Legal}
+use Rattle.rules.specs.declared.overhead.Overhead.{Overhead as OverheadEnum}
+use Rattle.rules.specs.declared.overhead.Overhead.the-variants.{Nothing, Lengthened, Penalised, Forbidden}
 use Rattle.rules.specs.declared.track.Entered.{Entered as EnteredEnum}
 use Rattle.rules.specs.declared.track.Entered.the-variants.{Outside, At}
 use Rattle.rules.specs.declared.track.Track.{Track}
@@ -100,3 +108,72 @@ costOf (Price n) = fin n
 -- how many clear vertices lie low and high of a vertex, at most so many
 unfoldable pub runsOf : Grid → View → (most v : ℕ) → List ℕ
 runsOf g view most v = length (clearRun g view low most v) ∷ length (clearRun g view high most v) ∷ []
+
+-- a direction and a number of vertices in the place of an extension: it is as many of the clear run
+unfoldable pub overheadBy : Grid → View → (v : ℕ) → OverheadEnum → Overhead
+overheadBy g view v Nothing = nothing
+overheadBy g view v (Lengthened d n) = lengthened (clearRun g view (directionOf d) n v)
+overheadBy g view v Penalised = penalised
+overheadBy g view v Forbidden = forbidden
+
+-- all of the vertices that an extension names are clear, and they are fewer than 16
+pub record Whole (g : Grid) (view : View) (v : ℕ) (d : DirectionEnum) (n : ℕ) : Type 0 where
+  pub few : n < 16
+  pub clear : length (clearRun g view (directionOf d) n v) ≡ n
+
+unfoldable pub WholeOverhead : Grid → View → (v : ℕ) → OverheadEnum → Type 0
+WholeOverhead g view v Nothing = Unit
+WholeOverhead g view v (Lengthened d n) = Whole g view v d n
+WholeOverhead g view v Penalised = Unit
+WholeOverhead g view v Forbidden = Unit
+
+pub record IsOverhead (g : Grid) (view : View) (v : ℕ) (r : OverheadEnum) (o : Overhead) : Type 0 where
+  pub same : overheadBy g view v r ≡ o
+  pub whole : WholeOverhead g view v r
+
+-- one that lays nothing is the same wherever it is asked
+abbrev pub IsOverheadAnywhere : OverheadEnum → Overhead → Type 0
+IsOverheadAnywhere r o = (g : Grid) (view : View) (v : ℕ) → IsOverhead g view v r o
+
+-- ---- steps
+
+abbrev pub placeOf : PlaceStruct → Place
+placeOf p = record { vertex = p .vertex; segment = segmentOf (p .segment) }
+
+unfoldable pub madeBy : Grid → View → (v : ℕ) → MadeStruct → Made
+madeBy g view v m =
+    record {
+      next = placeOf (m .next);
+      enter = m .enter;
+      over = m .over;
+      laid = clearRun g view (directionOf (m .toward)) (m .added) v;
+      penalties = m .penalties;
+    }
+
+unfoldable pub steppedBy : Grid → View → (v : ℕ) → SteppedEnum → Stepped
+steppedBy g view v Illegal = illegal
+steppedBy g view v (Legal m) = legal (madeBy g view v m)
+
+unfoldable pub WholeStep : Grid → View → (v : ℕ) → SteppedEnum → Type 0
+WholeStep g view v Illegal = Unit
+WholeStep g view v (Legal m) = Whole g view v (m .toward) (m .added)
+
+pub record IsStepped (g : Grid) (view : View) (v : ℕ) (r : SteppedEnum) (s : Stepped) : Type 0 where
+  pub same : steppedBy g view v r ≡ s
+  pub whole : WholeStep g view v r
+
+-- one that lays nothing is the same wherever it is asked
+abbrev pub IsSteppedAnywhere : SteppedEnum → Stepped → Type 0
+IsSteppedAnywhere r s = (g : Grid) (view : View) (v : ℕ) → IsStepped g view v r s
+
+-- a via move, with what it owes
+unfoldable pub byVia : (into enter over : ℕ) → DirectionEnum → (added penalties : ℕ) → SteppedEnum
+byVia into enter over toward added penalties =
+    Legal (record {
+      next = record { vertex = into; segment = Fresh };
+      enter = enter;
+      over = over;
+      toward = toward;
+      added = added;
+      penalties = penalties;
+    })

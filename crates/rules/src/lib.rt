@@ -4,4 +4,5 @@ pub mod overhead;
 pub mod price;
 pub mod seen;
 pub mod segment;
+pub mod step;
 pub mod track;
