@@ -1,4 +1,5 @@
 -- What the code's overheads and steps mean.
+--     toward-below, run-count                the count of a side
 --     clear-all, clear-some                  a run is lengthened where as many are clear as are missing
 --     fresh-high, fresh-low, fresh-neither   the overhead of a fresh segment
 --     running-clear, running-unclear         of a running one
@@ -30,12 +31,18 @@ clear-some : (missing : ℕ) (run : List ℕ) (else : Overhead) → (length run 
 unfolding lengthenedBy
 clear-some missing run else ne = rw (ne-eqb (length run) missing ne) refl
 
--- a side's count is the length of its run
-pub run-count : (g : Grid) (view : View) (d : Direction) (most v : ℕ) {runs : List ℕ} → runs ≡ runsOf g view most v
-    → getD runs (toward d) 0 ≡ length (clearRun g view d most v)
+-- a step's number is 0 or 1
+pub toward-below : (d : DirectionEnum) → toward (directionOf d) < 2
+unfolding toward directionOf
+toward-below Low = omega arith
+toward-below High = omega arith
+
+-- a side's count, by the number of its move, is the length of its run
+pub run-count : (g : Grid) (view : View) (d : Direction) (most v : ℕ) {side : ℕ} {runs : List ℕ} → side ≡ toward d → runs ≡ runsOf g view most v
+    → getD runs side 0 ≡ length (clearRun g view d most v)
 unfolding runsOf toward
-run-count g view low most v e = rw e refl
-run-count g view high most v e = rw e refl
+run-count g view low most v s e = rw (s, e) refl
+run-count g view high most v s e = rw (s, e) refl
 
 module _ (t : Tech) (view : View) (v : ℕ) where
   -- how many clear vertices lie on a side

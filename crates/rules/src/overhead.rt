@@ -1,11 +1,10 @@
 // What a via move owes for the segment that it leaves.
 ghost use mathlib.Core.Path.{_≡_};
 ghost use Prim.Native.Nat.{_-_, _<_};
-ghost use lib.ListN.{getD};
 ghost use Rattle.job.specs.Grid.{vertices};
 ghost use Rattle.job.specs.Structs.{Sized, gridOf};
 ghost use Rattle.rules.specs.Segments.{fresh, running};
-ghost use Rattle.rules.specs.Overheads.{toward, otherwise, overheadOf};
+ghost use Rattle.rules.specs.Overheads.{otherwise, overheadOf};
 ghost use Rattle.rules.specs.Seen.{viewBy};
 ghost use Rattle.rules.specs.Structs.{runsOf, directionOf, segmentOf, TechFits, techBy, IsOverhead, IsOverheadAnywhere};
 use crate::price::Tech;
@@ -13,6 +12,7 @@ use crate::price::line_of;
 use crate::seen::clear;
 use crate::segment::Direction;
 use crate::segment::Segment;
+use crate::segment::move_toward;
 use crate::track::Entered;
 use crate::track::entered_by;
 use job::grid::Grid;
@@ -67,15 +67,6 @@ fn missing_of(least: usize, length: usize) -> usize
     if length < least { least - length } else { 0 }
 }
 
-fn run_toward(runs: [usize; 2], direction: Direction) -> usize
-    ensures { λ r. ⌜ r ≡ getD runs (toward (directionOf direction)) 0 ⌝ }
-{
-    match direction {
-        Direction::Low => runs[0],
-        Direction::High => runs[1],
-    }
-}
-
 // A fresh segment tries high, then low.
 fn fresh_overhead(tech: Tech, seen: &[u8; 16384], v: usize) -> Overhead
     requires { ⌜ (TechFits tech) × (v < vertices (gridOf (tech .grid))) ⌝ }
@@ -108,7 +99,7 @@ fn running_overhead(
     let line = line_of(tech, v);
     let missing = missing_of(line.least, length);
     let runs = clear_runs(tech.grid, seen, v, missing);
-    if run_toward(runs, direction) == missing {
+    if runs[move_toward(direction)] == missing {
         return Overhead::Lengthened(direction, missing);
     }
     otherwise(line.area)

@@ -1,6 +1,7 @@
 // The segment that is being made.
 ghost use mathlib.Core.Path.{_≡_};
 ghost use Rattle.rules.specs.Segments.{ofLength, alongOnly, grow};
+ghost use Rattle.rules.specs.Overheads.{toward};
 ghost use Rattle.rules.specs.Structs.{Short, directionOf, segmentOf, grownOf};
 
 pub enum Direction {
@@ -20,6 +21,16 @@ pub enum Segment {
 pub enum Grown {
     Back,
     To(Segment),
+}
+
+// The move that steps in a direction.
+pub fn move_toward(direction: Direction) -> usize
+    ensures { λ r. ⌜ r ≡ toward (directionOf direction) ⌝ }
+{
+    match direction {
+        Direction::Low => 0,
+        Direction::High => 1,
+    }
 }
 
 // Length M or more is paid and keeps its direction.

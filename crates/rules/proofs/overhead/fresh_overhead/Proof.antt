@@ -1,5 +1,5 @@
 -- `rules::overhead::fresh_overhead` meets its contract: room high, else low, else the area penalty.
-use mathlib.Core.Path.{sym, ap, _∙_}
+use mathlib.Core.Path.{refl, sym, ap, _∙_}
 use native.Mathlib.Omega.{arith}
 use borrow.Author.Needs.{needs}
 use Rattle.job.specs.declared.groups.Layer.{Layer}
@@ -25,7 +25,7 @@ unfolding techBy toward
 returns c =
     let is = ap (λ (l : Layer). l .least) (c .before .before .before .line-of .ensures) in
     let few = rw (sym is) at (line-fits (c .before .before .before .before .pre .0) (c .before .before .before .before .pre .1) .minLength) in
-    fresh-high _ _ _ is few (sym (run-count _ _ high _ _ (c .before .before .clear-runs .ensures)) ∙ c .if1 .taken)
+    fresh-high _ _ _ is few (sym (run-count _ _ high _ _ refl (c .before .before .clear-runs .ensures)) ∙ c .if1 .taken)
 
 array-read-if2 : tie.Need-array-read-if2
 array-read-if2 c = search needs
@@ -35,8 +35,8 @@ unfolding techBy toward
 returns-2 c =
     let is = ap (λ (l : Layer). l .least) (c .before .before .before .before .before .line-of .ensures) in
     let few = rw (sym is) at (line-fits (c .before .before .before .before .before .before .pre .0) (c .before .before .before .before .before .before .pre .1) .minLength) in
-    fresh-low _ _ _ is few (λ e. c .before .before .if1 .left (run-count _ _ high _ _ (c .before .before .before .before .clear-runs .ensures) ∙ e))
-    (sym (run-count _ _ low _ _ (c .before .before .before .before .clear-runs .ensures)) ∙ c .if2 .taken)
+    fresh-low _ _ _ is few (λ e. c .before .before .if1 .left (run-count _ _ high _ _ refl (c .before .before .before .before .clear-runs .ensures) ∙ e))
+    (sym (run-count _ _ low _ _ refl (c .before .before .before .before .clear-runs .ensures)) ∙ c .if2 .taken)
 
 otherwise-requires : tie.Need-otherwise-requires
 otherwise-requires c κs = search needs
@@ -46,8 +46,8 @@ unfolding techBy toward
 returns-3 c =
     let is = ap (λ (l : Layer). l .least) (c .before .before .before .before .before .before .line-of .ensures) in
     let few = rw (sym is) at (line-fits (c .before .before .before .before .before .before .before .pre .0) (c .before .before .before .before .before .before .before .pre .1) .minLength) in
-    fresh-neither _ _ _ is few (λ e. c .before .before .before .if1 .left (run-count _ _ high _ _ (c .before .before .before .before .before .clear-runs .ensures) ∙ e))
-    (λ e. c .before .if2 .left (run-count _ _ low _ _ (c .before .before .before .before .before .clear-runs .ensures) ∙ e)) (ap (λ (l : Layer). l .area) (c .before .before .before .before .before .before .line-of .ensures)) (c .otherwise .ensures)
+    fresh-neither _ _ _ is few (λ e. c .before .before .before .if1 .left (run-count _ _ high _ _ refl (c .before .before .before .before .before .clear-runs .ensures) ∙ e))
+    (λ e. c .before .if2 .left (run-count _ _ low _ _ refl (c .before .before .before .before .before .clear-runs .ensures) ∙ e)) (ap (λ (l : Layer). l .area) (c .before .before .before .before .before .before .line-of .ensures)) (c .otherwise .ensures)
 
 pub fresh-overhead-spec : {M : Type 1} → statement M
 fresh-overhead-spec =
