@@ -97,7 +97,7 @@ unfoldable pub unlessJoined : (unjoined : List ℕ) → Progress → Read Progre
 unlessJoined [] done records = good done
 unlessJoined (p ∷ ps) done records = records
 
--- the records of a net until all its pins are joined or one says none; at most n joins
+-- the records of a net until all its pins are joined or one says none; at most n joins, and n is no fewer than the unjoined pins, so at 0 all are joined
 unfoldable pub readNet : (bits : List ℕ) → Job → (k n : ℕ) → Standing → Totals → (at : ℕ) → Read Progress
 readNet bits j k zero s totals at = good (record { entries = []; metal = s .metal; totals = withNet totals; at = at })
 readNet bits j k (suc n) s totals at =
