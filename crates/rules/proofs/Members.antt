@@ -1,9 +1,10 @@
 -- Whether a vertex is in a list.
 --     not-both, neither              a test does not both hold and fail; both of two tests fail
 --     member-none, member-here       nothing is in an empty list; in a list of one
---     member-append                  in one of two lists
+--     member-append, member-both     in one of two lists
 --     member-all                     what holds of every element holds of a member
 --     without-one, without-less      a pin taken out is in no longer, and no other comes in
+--     without-other                  another pin stays as it was
 use Prim.Native.Nat.{ℕ}
 use mathlib.Core.Path.{_≡_, refl, sym, _∙_}
 use mathlib.Core.Logic.{_⊎_, inl, inr}
@@ -64,6 +65,16 @@ member-append v (x ∷ xs) ys h = by (eqb v x) h (member-append v xs ys)
     by true k rest = inl refl
     by false k rest = rest k
 
+-- in two lists, as an equation
+pub member-both : (v : ℕ) (xs ys : List ℕ) → member v (xs ++ ys) ≡ (member v xs || member v ys)
+unfolding member any
+member-both v [] ys = refl
+member-both v (x ∷ xs) ys = by (eqb v x) (member-both v xs ys)
+  where
+    by : (b : Bool) → member v (xs ++ ys) ≡ (member v xs || member v ys) → (b || member v (xs ++ ys)) ≡ ((b || member v xs) || member v ys)
+    by true rest = refl
+    by false rest = rest
+
 -- what holds of every element holds of a member
 pub member-all : (P : ℕ → Type 0) (v : ℕ) (xs : List ℕ) → All P xs → member v xs ≡ true → P v
 unfolding member any All
@@ -93,3 +104,14 @@ without-less v w (p ∷ ps) h = by (eqb p w) (without-less v w ps (second (eqb v
     by : (b : Bool) → member v (without w ps) ≡ false → member v (elim b [ true ↦ without w ps | false ↦ p ∷ without w ps ]) ≡ false
     by true rest = rest
     by false rest = neither (eqb v p) (member v (without w ps)) (first (eqb v p) (member v ps) h) rest
+
+-- another pin stays as it was
+pub without-other : (v w : ℕ) (ps : List ℕ) → (v ≡ w → ⊥) → member v (without w ps) ≡ member v ps
+unfolding member any without
+without-other v w [] differ = refl
+without-other v w (p ∷ ps) differ = by (eqb p w) refl (without-other v w ps differ)
+  where
+    by : (b : Bool) → eqb p w ≡ b → member v (without w ps) ≡ member v ps
+        → member v (elim b [ true ↦ without w ps | false ↦ p ∷ without w ps ]) ≡ (eqb v p || member v ps)
+    by true e rest = rw (ne-eqb v p (λ same. differ (same ∙ eqb-true p w e))) rest
+    by false e rest = rw rest refl
