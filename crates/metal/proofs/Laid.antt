@@ -1,16 +1,19 @@
 -- A net laid on vertices.
---     laid-own, laid-several     a net on a vertex that it has alone, and on one of several nets
---     laid-at         a vertex's code: laid if it is one of them, else as it was
---     laid-beyond     from their bound on the slice is as found
+--     laid-bare, laid-other         a net on a bare vertex, and on one of another net
+--     laid-own, laid-several        on a vertex that it has alone, and on one of several nets
+--     map-own                       a vertex that the net has alone keeps its code
+--     laid-at                       a vertex's code: laid if it is one of them, else as it was
+--     laid-beyond                   from their bound on the slice is as found
+--     laid-append                   one list of vertices after the other
 use Prim.Native.Nat.{ℕ, _≤_, _<_}
 use mathlib.Core.Path.{_≡_, refl, sym, ap, _∙_}
-use mathlib.Core.List.{List, [], _∷_}
+use mathlib.Core.List.{List, [], _∷_, _++_}
 use mathlib.Core.Bool.{Bool, true, false, _||_, cond}
 use native.Mathlib.Omega.{arith}
 use lib.ListN.{length, getD, set, length-set}
-use lib.Seq.{getD-set-same, getD-set-other}
+use lib.Seq.{getD-set-same, getD-set-other, set-getD}
 use lib.Dec.{eqb}
-use borrow.Author.Tests.{eqb-true, eqb-false, eq-eqb}
+use borrow.Author.Tests.{eqb-true, eqb-false, eq-eqb, ne-eqb}
 use Rattle.job.specs.Lists.{any, All}
 use Rattle.rules.specs.Views.{member}
 use Rattle.metal.specs.Codes.{laidCode, layAll, Beyond}
@@ -25,6 +28,12 @@ laid-own m = rw (eq-eqb m m refl) (by (eqb m 0))
     by true = refl
     by false = refl
 
+-- so the map stays
+pub map-own : (m : ℕ) (codes : List ℕ) (v : ℕ) → getD codes v 0 ≡ m → codes ≡ set codes v (laidCode m (getD codes v 0))
+map-own m codes v e =
+    let same : laidCode m (getD codes v 0) ≡ getD codes v 0 = rw e (laid-own m) in
+    sym (ap (set codes v) same ∙ set-getD codes v 0)
+
 -- a net on a vertex of several nets
 pub laid-several : (m : ℕ) → laidCode m 256 ≡ 256
 unfolding laidCode
@@ -33,6 +42,16 @@ laid-several m = by (eqb 256 m) refl
     by : (b : Bool) → eqb 256 m ≡ b → cond b m 256 ≡ 256
     by true e = sym (eqb-true 256 m e)
     by false e = refl
+
+-- a net on a bare vertex
+pub laid-bare : (m code : ℕ) → code ≡ 0 → laidCode m code ≡ m
+unfolding laidCode
+laid-bare m code e = rw e
+
+-- a net on a vertex of another
+pub laid-other : (m code : ℕ) → (code ≡ 0 → ⊥) → (code ≡ m → ⊥) → laidCode m code ≡ 256
+unfolding laidCode
+laid-other m code some apart = rw (ne-eqb code 0 some, ne-eqb code m apart) refl
 
 -- laid once more, a code stays
 laid-twice : (m code : ℕ) → laidCode m (laidCode m code) ≡ laidCode m code
@@ -71,3 +90,9 @@ laid-beyond n m [] codes h = beyond-refl n codes
 laid-beyond n m (v ∷ vs) codes h =
     let x = laidCode m (getD codes v 0) in
     beyond-trans (laid-beyond n m vs (set codes v x) (h .1)) (beyond-store n v x codes (h .0))
+
+-- one list of vertices after the other
+pub laid-append : (m : ℕ) (xs ys codes : List ℕ) → layAll m (xs ++ ys) codes ≡ layAll m ys (layAll m xs codes)
+unfolding layAll
+laid-append m [] ys codes = refl
+laid-append m (x ∷ xs) ys codes = laid-append m xs ys (set codes x (laidCode m (getD codes x 0)))

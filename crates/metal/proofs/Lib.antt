@@ -5,9 +5,11 @@
 --     Coded       each vertex's code is that of the metal on it
 --     Runs        the vertices beyond one, along its track
 --     Finished    the map at the end, with the obstacles put in
+--     Turns       turns of the loops over a slice
 pub mod Slices
 pub mod Laid
 pub mod Metal
 pub mod Coded
 pub mod Runs
 pub mod Finished
+mod Turns

@@ -12,13 +12,12 @@ use native.Mathlib.Nat.{not-suc-le-zero, le-of-suc-le-suc}
 use native.Mathlib.Omega.{arith}
 use lib.ListN.{length}
 use lib.Dec.{eqb}
-use borrow.Author.Tests.{ne-eqb}
 use Rattle.job.specs.Lists.{any, All}
 use Rattle.rules.specs.Views.{member}
 use Rattle.rules.specs.Standings.{more}
 use Rattle.rules.specs.Maps.{netCode}
 use Rattle.metal.specs.Codes.{laidCode}
-use Rattle.metal.proofs.Laid.{laid-own, laid-several}
+use Rattle.metal.proofs.Laid.{laid-other, laid-own, laid-several}
 
 -- in two lists, one after the other, is what is in one of them
 member-both : (v : ℕ) (xs ys : List ℕ) → member v (xs ++ ys) ≡ (member v xs || member v ys)
@@ -50,14 +49,9 @@ told-after (suc c) n true h = inr refl
 told-after (suc c) n false (inl h) = inl (omega arith)
 told-after (suc c) n false (inr h) = inr h
 
--- a net on a vertex of another
-laid-other : (m c : ℕ) → (suc c ≡ m → ⊥) → laidCode m (suc c) ≡ 256
-unfolding laidCode
-laid-other m c apart = let some : suc c ≡ 0 → ⊥ = λ e. omega (arith, e) in rw (ne-eqb (suc c) 0 some, ne-eqb (suc c) m apart) refl
-
 -- net n on a vertex of nets before it
 told-laid : (n c : ℕ) → Told n (suc c) → laidCode n (suc c) ≡ 256
-told-laid n c (inl h) = laid-other n c (λ e. omega (arith, e, h))
+told-laid n c (inl h) = laid-other n (suc c) (λ e. omega (arith, e)) (λ e. omega (arith, e, h))
 told-laid n c (inr h) = rw h (laid-several n)
 
 module _ (v : ℕ) where
@@ -130,7 +124,7 @@ module _ (v : ℕ) where
     where
       by : (b : Bool) → laidCode (suc m) (netCode 0 (suc (suc n)) ls v) ≡ netCode (suc m) (suc (suc n)) ls v
           → laidCode (suc m) (netCode (after 0 (suc n) b) (suc (suc n)) ls v) ≡ netCode (after (suc m) (suc n) b) (suc (suc n)) ls v
-      by true rest = kept-laid (suc m) n 255 (suc (suc n)) ls (laid-other (suc m) n (λ e. omega (arith, e, h)))
+      by true rest = kept-laid (suc m) n 255 (suc (suc n)) ls (laid-other (suc m) (suc n) (λ e. omega (arith, e)) (λ e. omega (arith, e, h)))
       by false rest = rest
 
   -- a net laid beside what the nets before it made, whether it was there or not

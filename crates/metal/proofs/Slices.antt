@@ -5,12 +5,13 @@
 --     zeroed-bare, zeroed-beyond      made zero, the need is zero, and the rest is as found
 --     zeroed-only                     where the need is zero and the rest as found, the slice is the one that was found, made zero
 --     zeroed-kept                     made zero, it does not matter what the need held
-use Prim.Native.Nat.{ℕ, _+_, _-_, _≤_, _<_}
+--     zeroed-more                     made zero with one more
+use Prim.Native.Nat.{ℕ, zero, suc, _+_, _-_, _≤_, _<_}
 use mathlib.Core.Path.{_≡_, refl, sym, ap, _∙_}
-use mathlib.Core.List.{List, _++_}
+use mathlib.Core.List.{List, _∷_, _++_}
 use native.Mathlib.Omega.{arith}
 use lib.ListN.{length, getD, set, take, drop, replicate, length-append, take-append-drop, length-drop, length-set, length-replicate, getD-replicate, List·getD-append}
-use lib.Seq.{length-take-le, drop-at, drop-set-lt, getD-take, getD-drop, ext-getD}
+use lib.Seq.{length-take-le, drop-cons, set-at, drop-at, drop-set-lt, getD-take, getD-drop, ext-getD}
 use Rattle.metal.specs.Codes.{Beyond, Bare, zeroed}
 
 -- ---- past its need
@@ -72,3 +73,14 @@ zeroed-only {n} {held} {found} kept bare h =
 pub zeroed-kept : {n : ℕ} {held found : List ℕ} → Beyond n held found → zeroed n held ≡ zeroed n found
 unfolding zeroed
 zeroed-kept {n} kept = ap (λ (xs : List ℕ). replicate n 0 ++ xs) (kept .rest)
+
+-- zeros with one more at their end
+zeros-more : (n : ℕ) (xs : List ℕ) → replicate n 0 ++ (0 ∷ xs) ≡ 0 ∷ (replicate n 0 ++ xs)
+zeros-more zero xs = refl
+zeros-more (suc n) xs = ap (λ (ys : List ℕ). 0 ∷ ys) (zeros-more n xs)
+
+-- made zero with one more
+pub zeroed-more : (n : ℕ) (xs : List ℕ) → n < length xs → set (zeroed n xs) n 0 ≡ zeroed (suc n) xs
+unfolding zeroed
+zeroed-more n xs h =
+    rw (drop-cons xs n 0 h) (set-at (replicate n 0) (getD xs n 0) (drop (suc n) xs) 0 n (length-replicate n 0) ∙ zeros-more n (drop (suc n) xs))

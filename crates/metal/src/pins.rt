@@ -16,7 +16,7 @@ use reader::load::load_net;
 
 // Lays a net on its pins.
 pub fn lay_pins(map: &mut [u16], pins: &[usize; 16], count: usize, net: u16)
-    requires { ⌜ (count ≤ 16) × (All (λ v. v < length (now map)) (take count (now pins))) ⌝ }
+    requires { ⌜ (count ≤ 16) × (count ≤ length (now pins)) × (All (λ v. v < length (now map)) (take count (now pins))) ⌝ }
     ensures { λ _. ⌜ now (map .exit) ≡ layAll net (take count (now (pins .entry))) (now (map .entry)) ⌝ }
 {
     for pin in 0..count {
