@@ -6,6 +6,8 @@
 --     Runs        the vertices beyond one, along its track
 --     Finished    the map at the end, with the obstacles put in
 --     Turns       turns of the loops over a slice
+--     Nets        the nets of a job that was read, as the code loads them
+--     First       the metal at first, laid net by net
 pub mod Slices
 pub mod Laid
 pub mod Metal
@@ -13,3 +15,5 @@ pub mod Coded
 pub mod Runs
 pub mod Finished
 mod Turns
+pub mod Nets
+pub mod First

@@ -1,65 +1,50 @@
+-- `metal::pins::lay_all_pins` meets its contract: the pins of the nets before are laid, over what was found.
+use mathlib.Core.Path.{refl}
 use borrow.Author.Needs.{needs}
+use native.Mathlib.Omega.{arith}
+use Rattle.job.specs.Structs.{gridOf}
+use Rattle.metal.proofs.Nets.{job-fits}
+use Rattle.metal.proofs.First.{PinsLaid, pins-begun, number-below, pins-here, pins-asked, pins-on, pins-done}
 use Rattle.metal.proofs.pins.lay_all_pins.Statement.{statement}
 use Rattle.metal.proofs.pins.lay_all_pins.Tie as tie
-use Rattle.metal.proofs.pins.lay_all_pins.Reads as reads
-use Rattle.metal.proofs.pins.lay_all_pins.Lts as lts
-use Rattle.metal.proofs.pins.lay_pins.Reads as lay-pins-reads
-use Rattle.reader.proofs.load.load_net.Reads as load-net-reads
 
 abbrev Inv-loop : tie.InvT-loop
-Inv-loop s grid nets from map₀ pins₀ boxes₀ at₀ net₀ left₀ map pins boxes at net left = ?
+Inv-loop s grid nets from map₀ pins₀ boxes₀ at₀ net₀ left₀ map pins boxes at net left = PinsLaid s (gridOf grid) map₀ map pins at net left
 
 abbrev μ-loop : tie.MeasureT-loop
-μ-loop s grid nets from map₀ pins₀ boxes₀ at₀ net₀ left₀ map pins boxes at net left = ?
+μ-loop s grid nets from map₀ pins₀ boxes₀ at₀ net₀ left₀ map pins boxes at net left = left
 
--- src/pins.rt:39:5
 loop-holds : tie.Need-loop-holds Inv-loop μ-loop
-loop-holds c = search needs
+loop-holds c = pins-begun (c .before .before .pre .0) (c .before .before .pre .1) refl
 
--- src/pins.rt:40:13
 load-net-requires : tie.Need-load-net-requires Inv-loop μ-loop
-load-net-requires c κs = search needs
+load-net-requires c κs =
+    let held = c .before .before .before .before .before .before .pre .0 in
+    let fits = job-fits _ _ (held .job) (held .read) (held .grid) in
+    (fits .sized .small, fits .short, pins-here (c .before .before .before .loop .inv) (c .before .before .loop-test .taken) .room)
 
--- src/pins.rt:41:9
 add-net : tie.Need-add-net Inv-loop μ-loop
-add-net c = search needs
+add-net c = omega (arith, number-below (c .before .before .before .before .loop .inv) (c .before .before .before .loop-test .taken))
 
--- src/pins.rt:42:9
 lay-pins-requires : tie.Need-lay-pins-requires Inv-loop μ-loop
-lay-pins-requires c κs = search needs
+lay-pins-requires c κs = pins-asked (c .before .before .before .before .before .before .loop .inv) (c .before .before .before .before .before .loop-test .taken) (c .before .before .load-net .ensures .0) (c .before .before .load-net .ensures .1 .0)
 
--- src/pins.rt:44:9
 sub-left : tie.Need-sub-left Inv-loop μ-loop
-sub-left c = search needs
+sub-left c = omega (arith, c .before .before .before .before .before .before .before .before .loop-test .taken)
 
--- src/pins.rt:39:5
 loop-less : tie.Need-loop-less Inv-loop μ-loop
-loop-less c = search needs
+loop-less c = omega (arith, c .before .before .before .before .before .before .before .before .loop-test .taken)
 
--- src/pins.rt:39:5
 loop-again : tie.Need-loop-again Inv-loop μ-loop
-loop-again c = search needs
+loop-again c = pins-on (c .before .before .before .before .before .before .before .before .before .loop .inv) (c .before .before .before .before .before .before .before .before .loop-test .taken) (c .before .before .before .before .before .load-net .ensures .0) (c .before .before .before .before .before .load-net .ensures .1 .0) (c .before .before .lay-pins .ensures)
 
--- src/pins.rt:28:1
 same-length : tie.Need-same-length Inv-loop μ-loop
-same-length c = search needs
+same-length c = c .before .loop .inv .kept .size
 
--- src/pins.rt:28:1
 returns : tie.Need-returns Inv-loop μ-loop
-returns c = search needs
+returns c = (c .before .loop .inv .kept, pins-done (c .before .loop .inv) (c .loop-test .left))
 
 pub lay-all-pins-spec : {M : Type 1} → statement M
 lay-all-pins-spec =
     tie.close
-    (tie.spec
-    Inv-loop
-    μ-loop
-    loop-holds
-    load-net-requires
-    add-net
-    lay-pins-requires
-    sub-left
-    loop-less
-    loop-again
-    same-length
-    returns)
+    (tie.spec Inv-loop μ-loop loop-holds load-net-requires add-net lay-pins-requires sub-left loop-less loop-again same-length returns)
