@@ -5,7 +5,7 @@
 use Prim.Native.Nat.{ℕ, zero, suc, _+_, _≤_, _<_}
 use mathlib.Core.Path.{_≡_, refl, sym, ap, _∙_}
 use mathlib.Core.Logic.{_⊎_, inl, inr}
-use mathlib.Core.List.{List, [], _∷_, _++_}
+use mathlib.Core.List.{List, _++_}
 use mathlib.Core.Bool.{Bool, true, false, cond}
 use native.Mathlib.Nat.{not-suc-le-zero, le-of-suc-le-suc, eq-or-lt-of-le, add-zero}
 use native.Mathlib.Omega.{arith}
@@ -126,6 +126,6 @@ map-finished j metal {pins} marks codes found says long held kept =
 
     need : take n whole ≡ mapOf j metal
     need = ext-getD 0 (take n whole) (mapOf j metal) (size ∙ sym (length-codes j metal 0 n)) (λ i on.
-      let h : i < n = omega (arith, on, size) in
-      let place : i ≡ 0 + i = omega arith in
-      getD-take n whole i 0 h ∙ at i h ∙ ap (mapCode j metal) place ∙ sym (code-at j metal 0 n i h))
+        let h : i < n = omega (arith, on, size) in
+        let place : i ≡ 0 + i = omega arith in
+        getD-take n whole i 0 h ∙ at i h ∙ ap (mapCode j metal) place ∙ sym (code-at j metal 0 n i h))

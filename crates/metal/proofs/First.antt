@@ -1,18 +1,19 @@
 -- The metal at first, laid net by net.
---     metalTo                           the pins of the first nets, and nothing of the others
---     metal-none, metal-all             of no net, and of all
---     metal-more, metal-known           of one more, which has its list
+--     metalTo                                             the pins of the first nets, and nothing of the others
+--     metal-none, metal-all                               of no net, and of all
+--     metal-more, metal-known                             of one more, which has its list
 --     PinsLaid, pins-begun, -here, -asked, -on, -done     the loop that lays them
+--     number-below                                        a net's number is at most 255
 use Prim.Native.Nat.{ℕ, zero, suc, _+_, _-_, _≤_, _<_}
 use mathlib.Core.Path.{_≡_, refl, sym, ap, _∙_}
-use mathlib.Core.List.{List, [], _∷_, _++_, map, append-nil, append-assoc}
+use mathlib.Core.List.{List, [], _∷_, _++_, map, append-assoc}
 use native.Mathlib.Omega.{arith}
 use lib.ListN.{length, take, length-append}
 use Rattle.bits.specs.Bits.{bitsOf}
 use Rattle.job.specs.Lists.{All}
 use Rattle.job.specs.Grid.{Grid, vertices}
 use Rattle.job.specs.Job.{Net, Job}
-use Rattle.job.specs.Reading.{good, jobHead, netsAt, readJob}
+use Rattle.job.specs.Reading.{good, readJob}
 use Rattle.job.specs.Structs.{gridOf}
 use Rattle.job.specs.declared.grid.Grid.{Grid as GridStruct}
 use Rattle.job.proofs.TwoWay.{rules-hold, netAt}
@@ -137,6 +138,7 @@ module _ {bytes : List ℕ} {g : Grid} {found held pins : List ℕ} {at net left
         by [] e = absurd (omega (arith, some, e))
         by (n ∷ others) e = (n, others, refl)
 
+    -- it stands between the nets before and after
     split : so-far .job .nets ≡ so-far .before ++ (next .0 ∷ next .1)
     split = so-far .nets ∙ ap (λ (l : List Net). so-far .before ++ l) (next .2)
 

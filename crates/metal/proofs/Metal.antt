@@ -1,4 +1,5 @@
 -- The code of the metal on a vertex, with more metal of a net.
+--     member-both     in two lists, one after the other
 --     code-empty      nets with no metal leave it
 --     code-alike      it goes by whether the vertex is there, not by the list
 --     code-apart      with none of it on the vertex it stays
@@ -20,7 +21,7 @@ use Rattle.metal.specs.Codes.{laidCode}
 use Rattle.metal.proofs.Laid.{laid-other, laid-own, laid-several}
 
 -- in two lists, one after the other, is what is in one of them
-member-both : (v : ℕ) (xs ys : List ℕ) → member v (xs ++ ys) ≡ (member v xs || member v ys)
+pub member-both : (v : ℕ) (xs ys : List ℕ) → member v (xs ++ ys) ≡ (member v xs || member v ys)
 unfolding member any
 member-both v [] ys = refl
 member-both v (x ∷ xs) ys = rw (member-both v xs ys) (sym (or-assoc (eqb v x) (member v xs) (member v ys)))

@@ -9,7 +9,7 @@ use native.Mathlib.Omega.{arith}
 use lib.ListN.{length, take, length-map}
 use lib.Seq.{sets, sets-eq, length-sets, take-append-seam}
 use lib.Dec.{leb}
-use borrow.Author.Tests.{leb-true, leb-false, lt-leb}
+use borrow.Author.Tests.{leb-true}
 use Rattle.bits.specs.Bits.{bitsOf}
 use Rattle.job.specs.Lists.{All}
 use Rattle.job.specs.Grid.{Grid, Vertex, vertices, vertexNumber}
@@ -21,7 +21,7 @@ use Rattle.job.specs.declared.grid.Grid.{Grid as GridStruct}
 use Rattle.job.proofs.Grids.{number-below}
 use Rattle.job.proofs.TwoWay.{rules-hold, netAt}
 use Rattle.reader.specs.Loading.{netLoaded, NetRoom, pinsLoaded}
-use Rattle.reader.proofs.Loaded.{NetTold, net-told}
+use Rattle.reader.proofs.Loaded.{net-told}
 use Rattle.rules.specs.Views.{pinsOf}
 
 -- ---- the job

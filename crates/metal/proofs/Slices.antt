@@ -59,8 +59,8 @@ unfolding Bare
 bare-take n xs bare h =
     let long : length (take n xs) ≡ n = length-take-le n xs h in
     ext-getD 0 (take n xs) (replicate n 0) (long ∙ sym (length-replicate n 0)) (λ i on.
-      let below : i < n = omega (arith, on, long) in
-      getD-take n xs i 0 below ∙ bare i below ∙ sym (getD-replicate n i 0 0 below))
+    let below : i < n = omega (arith, on, long) in
+    getD-take n xs i 0 below ∙ bare i below ∙ sym (getD-replicate n i 0 0 below))
 
 -- where the need is zero and the rest as found, the slice is the one that was found, made zero
 pub zeroed-only : {n : ℕ} {held found : List ℕ} → Beyond n held found → Bare n held → n ≤ length found → held ≡ zeroed n found

@@ -1,4 +1,4 @@
--- Turns of the loops that store into the map.
+-- Turns of the loops that store into a slice.
 --     Zeroing, zeroing-begun, -on, -done             making entries zero
 --     Putting, putting-begun, -on, -past, -done      putting obstacles in
 --     Running, running-begun, -on, -outside, -done   laying a run

@@ -6,7 +6,7 @@
 --     Beyond               past its need a slice is as found
 --     Bare, zeroed         its need is zero
 --     withObstacles        obstacles put in
-use Prim.Native.Nat.{ℕ, zero, suc, _≤_, _<_}
+use Prim.Native.Nat.{ℕ, zero, suc, _<_}
 use mathlib.Core.Path.{_≡_}
 use mathlib.Core.List.{List, [], _∷_, _++_}
 use mathlib.Core.Bool.{cond}

@@ -2,7 +2,6 @@
 use Prim.Native.Nat.{_-_}
 use mathlib.Core.Logic.{⊎-elim}
 use borrow.Author.Needs.{needs}
-use native.Mathlib.Omega.{arith}
 use Rattle.metal.proofs.Turns.{Putting, putting-begun, putting-on, putting-past, putting-done}
 use Rattle.metal.proofs.codes.put_obstacles.Statement.{statement}
 use Rattle.metal.proofs.codes.put_obstacles.Tie as tie

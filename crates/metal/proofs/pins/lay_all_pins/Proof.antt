@@ -1,6 +1,5 @@
 -- `metal::pins::lay_all_pins` meets its contract: the pins of the nets before are laid, over what was found.
 use mathlib.Core.Path.{refl}
-use borrow.Author.Needs.{needs}
 use native.Mathlib.Omega.{arith}
 use Rattle.job.specs.Structs.{gridOf}
 use Rattle.metal.proofs.Nets.{job-fits}

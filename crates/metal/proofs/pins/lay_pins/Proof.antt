@@ -1,6 +1,5 @@
 -- `metal::pins::lay_pins` meets its contract: so many pins are laid, and laying the rest gives all.
 use Prim.Native.Nat.{_-_}
-use borrow.Author.Needs.{needs}
 use native.Mathlib.Omega.{arith}
 use Rattle.metal.proofs.Turns.{Laying, laying-begun, laying-below, laying-on, laying-done}
 use Rattle.metal.proofs.pins.lay_pins.Statement.{statement}

@@ -1,9 +1,6 @@
 -- `metal::zeros::zero_codes` meets its contract: so far so many are zero.
-use Prim.Native.Nat.{_-_, _≤_}
-use mathlib.Core.Path.{_≡_, refl, ap, _∙_}
-use native.Mathlib.Omega.{arith}
+use Prim.Native.Nat.{_-_}
 use borrow.Author.Needs.{needs}
-use Rattle.metal.specs.Codes.{zeroed}
 use Rattle.metal.proofs.Turns.{Zeroing, zeroing-begun, zeroing-on, zeroing-done}
 use Rattle.metal.proofs.zeros.zero_codes.Statement.{statement}
 use Rattle.metal.proofs.zeros.zero_codes.Tie as tie
