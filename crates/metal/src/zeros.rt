@@ -1,0 +1,23 @@
+// Zeroing the part of a slice that a job needs.
+ghost use mathlib.Core.Path.{_≡_};
+ghost use Prim.Native.Nat.{_≤_};
+ghost use lib.ListN.{length};
+ghost use Rattle.metal.specs.Codes.{zeroed};
+
+pub fn zero_codes(map: &mut [u16], count: usize)
+    requires { ⌜ count ≤ length (now map) ⌝ }
+    ensures { λ _. ⌜ now (map .exit) ≡ zeroed count (now (map .entry)) ⌝ }
+{
+    for v in 0..count {
+        map[v] = 0;
+    }
+}
+
+pub fn zero_words(work: &mut [u64], count: usize)
+    requires { ⌜ count ≤ length (now work) ⌝ }
+    ensures { λ _. ⌜ now (work .exit) ≡ zeroed count (now (work .entry)) ⌝ }
+{
+    for word in 0..count {
+        work[word] = 0;
+    }
+}
