@@ -19,7 +19,7 @@ use Rattle.rules.specs.Views.{inGuide, pinsOf}
 use Rattle.rules.specs.Maps.{netCode}
 
 -- the box whose six numbers stand from a place on
-unfoldable pub boxIn : (numbers : List ℕ) → (from : ℕ) → Box
+abbrev pub boxIn : (numbers : List ℕ) → (from : ℕ) → Box
 boxIn numbers from =
     record {
       layerLow = getD numbers from 0;

@@ -1,7 +1,7 @@
 // The byte of each vertex, from its mark, its code and the guide.
 ghost use mathlib.Core.Path.{_≡_};
 ghost use mathlib.Core.List.{List};
-ghost use mathlib.Core.Bool.{not};
+ghost use mathlib.Core.Bool.{not, cond};
 ghost use Prim.Native.Nat.{ℕ, suc, _<_, _≤_, _-_, _%_};
 ghost use lib.ListN.{length, getD, take};
 ghost use lib.Dec.{eqb};
@@ -20,26 +20,32 @@ use rules::seen::OUTSIDE;
 use rules::seen::TAKEN;
 use rules::track::vertex_by;
 
+// A flag where a test holds.
+fn flag_if(holds: bool, flag: u8) -> u8
+    ensures { λ r. ⌜ r ≡ cond holds flag 0 ⌝ }
+{
+    if holds { flag } else { 0 }
+}
+
+// Whether a code tells of another net's metal.
+fn taken_by(net: u16, code: u16) -> bool
+    ensures { λ r. ⌜ r ≡ takenCode net code ⌝ }
+{
+    code != 0 && code != net
+}
+
 // The byte of a vertex with a mark and a code. Its mark is not 0 on an obstacle and on every net's pin.
 fn byte_of(mark: u8, code: u16, net: u16, inside: bool) -> u8
     ensures { λ r. ⌜ r ≡ seenByte (not (eqb mark 0)) (takenCode net code) (not inside) ⌝ }
 {
-    let mut byte: u8 = 0;
-    if mark != 0 {
-        byte += BLOCKED;
-    }
-    if code != 0 && code != net {
-        byte += TAKEN;
-    }
-    if !inside {
-        byte += OUTSIDE;
-    }
-    byte
+    let blocked = flag_if(mark != 0, BLOCKED);
+    let taken = flag_if(taken_by(net, code), TAKEN);
+    blocked + taken + flag_if(!inside, OUTSIDE)
 }
 
 // Every net's pins are blocked.
 fn see_grid(
-    seen: &mut [u8; 16384],
+    seen: &mut [u8],
     marks: &[u8; 16384],
     map: &[u16],
     grid: Grid,
@@ -47,7 +53,7 @@ fn see_grid(
     count: usize,
     net: u16,
 )
-    requires { ⌜ (Sized grid) × (vertices (gridOf grid) ≤ length (now map)) × (count ≤ 15) ⌝ }
+    requires { ⌜ (Sized grid) × (vertices (gridOf grid) ≤ length (now seen)) × (vertices (gridOf grid) ≤ length (now map)) × (count ≤ 15) ⌝ }
     ensures { λ _. ⌜ ((v : ℕ) → v < vertices (gridOf grid) → getD (now (seen .exit)) v 0
         ≡ sightOf (gridOf grid) (now (marks .entry)) (now (map .entry)) (boxesIn (now (boxes .entry)) 0 count) net v) ⌝ }
 {
@@ -59,8 +65,8 @@ fn see_grid(
 }
 
 // The net's own pins are not blocked.
-fn open_pins(seen: &mut [u8; 16384], pins: &[usize; 16], count: usize)
-    requires { ⌜ (count ≤ 16) × (All (λ v. v < 16384) (take count (now pins))) ⌝ }
+fn open_pins(seen: &mut [u8; 16384], pins: &[usize], count: usize)
+    requires { ⌜ (count ≤ length (now pins)) × (All (λ v. v < 16384) (take count (now pins))) ⌝ }
     ensures { λ _. ⌜ now (seen .exit) ≡ opened (take count (now (pins .entry))) (now (seen .entry)) ⌝ }
 {
     for i in 0..count {

@@ -1,0 +1,11 @@
+-- The laws behind the proofs of what a net sees.
+--     Guides      the guide, box by box
+--     Flags       the flags of a byte
+--     Sights      the bytes of the vertices, made in order of their numbers
+--     Opening     the blocked flag taken off the net's own pins
+--     Codes       another net's metal, told by the map's code
+mod Guides
+mod Flags
+mod Sights
+mod Opening
+mod Codes
