@@ -4,8 +4,12 @@
 --     Sights      the bytes of the vertices, made in order of their numbers
 --     Opening     the blocked flag taken off the net's own pins
 --     Codes       another net's metal, told by the map's code
+--     Pins        other nets' pins and obstacles, told by the marks
+--     Seen        the bytes make the view of the net at hand
 mod Guides
 mod Flags
 mod Sights
 mod Opening
 mod Codes
+mod Pins
+mod Seen
