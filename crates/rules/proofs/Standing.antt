@@ -1,4 +1,5 @@
 -- The tree and the unjoined pins are apart in every standing.
+--     fails                        a test that fails, as an equation
 --     Stands                       in a standing they are apart
 --     begun-apart                  before the first join of a net
 --     nets-apart, net-apart        of every net of a good job, and of the k-th
@@ -36,7 +37,7 @@ Stands t s = Apart t (s .tree) (s .unjoined)
 -- ---- before the first join
 
 -- a test that fails, as an equation
-fails : (b : Bool) → T (not b) → b ≡ false
+pub fails : (b : Bool) → T (not b) → b ≡ false
 fails true h = absurd h
 fails false h = refl
 

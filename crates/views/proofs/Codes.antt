@@ -2,7 +2,7 @@
 --     code-none, code-many, code-more, code-some     the code where no, several, more, some nets' metal covers a vertex
 --     taken-code                                     a vertex is taken where its code is neither 0 nor the net's own
 use Prim.Native.Nat.{ℕ, zero, suc, _+_, _≤_, _<_}
-use mathlib.Core.Path.{_≡_, refl, sym, ap, _∙_}
+use mathlib.Core.Path.{_≡_, refl, sym}
 use mathlib.Core.List.{List, [], _∷_}
 use mathlib.Core.Bool.{Bool, true, false, _||_, not, and-false}
 use native.Mathlib.Omega.{arith}

@@ -1,7 +1,7 @@
 -- The flags of a byte.
---     flag-below, byte-flags                       a flag, and the three flags' sum
---     byte-blocked, byte-taken, byte-outside       each flag read back
---     unblocked, byte-opened                       a byte with the blocked flag taken off, or not
+--     flag-below, byte-flags     a flag, and the three flags' sum
+--     byte-holds                 the flags read back
+--     unblocked, byte-opened     a byte with the blocked flag taken off, or not
 use Prim.Native.Nat.{ℕ, _+_, _-_, _%_, _≤_}
 use mathlib.Core.Path.{_≡_, refl}
 use mathlib.Core.Bool.{Bool, true, false, _&&_, not, cond}
@@ -21,38 +21,16 @@ unfolding seenByte
 byte-flags b t o e f g h = rw (e, g, f, h) refl
 
 -- the flags read back
-pub byte-blocked : (b t o : Bool) → holds 1 (seenByte b t o) ≡ b
+pub byte-holds : (b t o : Bool) → (holds 1 (seenByte b t o) ≡ b) × (holds 2 (seenByte b t o) ≡ t) × (holds 4 (seenByte b t o) ≡ o)
 unfolding holds seenByte
-byte-blocked true true true = refl
-byte-blocked true true false = refl
-byte-blocked true false true = refl
-byte-blocked true false false = refl
-byte-blocked false true true = refl
-byte-blocked false true false = refl
-byte-blocked false false true = refl
-byte-blocked false false false = refl
-
-pub byte-taken : (b t o : Bool) → holds 2 (seenByte b t o) ≡ t
-unfolding holds seenByte
-byte-taken true true true = refl
-byte-taken true true false = refl
-byte-taken true false true = refl
-byte-taken true false false = refl
-byte-taken false true true = refl
-byte-taken false true false = refl
-byte-taken false false true = refl
-byte-taken false false false = refl
-
-pub byte-outside : (b t o : Bool) → holds 4 (seenByte b t o) ≡ o
-unfolding holds seenByte
-byte-outside true true true = refl
-byte-outside true true false = refl
-byte-outside true false true = refl
-byte-outside true false false = refl
-byte-outside false true true = refl
-byte-outside false true false = refl
-byte-outside false false true = refl
-byte-outside false false false = refl
+byte-holds true true true = (refl, refl, refl)
+byte-holds true true false = (refl, refl, refl)
+byte-holds true false true = (refl, refl, refl)
+byte-holds true false false = (refl, refl, refl)
+byte-holds false true true = (refl, refl, refl)
+byte-holds false true false = (refl, refl, refl)
+byte-holds false false true = (refl, refl, refl)
+byte-holds false false false = (refl, refl, refl)
 
 -- a byte with the blocked flag taken off
 abbrev pub unblocked : (byte : ℕ) → ℕ

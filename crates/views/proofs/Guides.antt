@@ -2,7 +2,7 @@
 --     guide-none, guide-begun                 with no boxes, and before the first is looked at
 --     guide-inside, guide-outside, guide-done   a vertex in a box, a vertex outside it, and no box left
 use Prim.Native.Nat.{ℕ, zero, suc, _+_, _-_, _*_, _≤_, _<_}
-use mathlib.Core.Path.{_≡_, refl, ap, _∙_}
+use mathlib.Core.Path.{_≡_, refl, _∙_}
 use mathlib.Core.List.{List, _∷_}
 use mathlib.Core.Bool.{true, false}
 use native.Mathlib.Omega.{arith}

@@ -6,10 +6,12 @@
 --     Codes       another net's metal, told by the map's code
 --     Pins        other nets' pins and obstacles, told by the marks
 --     Seen        the bytes make the view of the net at hand
+--     Arrays      a net's boxes and pins, read back from the arrays that they are stored in
 mod Guides
 mod Flags
 mod Sights
 mod Opening
-mod Codes
+pub mod Codes
 mod Pins
 mod Seen
+pub mod Arrays

@@ -1,8 +1,8 @@
 -- The blocked flag taken off the net's own pins.
 --     PinsToOpen, pins-begin, pin-within, pins-turn, pins-end     the loop over the pins: before a turn, the next pin, a turn, after the last
 --     opened-at                                                   the byte of a vertex afterwards
-use Prim.Native.Nat.{ℕ, zero, suc, _+_, _≤_, _<_}
-use mathlib.Core.Path.{_≡_, refl, sym, ap, _∙_}
+use Prim.Native.Nat.{ℕ, suc, _+_, _≤_, _<_}
+use mathlib.Core.Path.{_≡_, refl, sym, _∙_}
 use mathlib.Core.List.{List, [], _∷_}
 use mathlib.Core.Bool.{Bool, true, false, _||_, cond}
 use native.Mathlib.Numerals.{add-one}

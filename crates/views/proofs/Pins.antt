@@ -5,7 +5,7 @@
 --     own-apart                    and no other net has them
 --     others-all                   where the net's own pins are left out, another net's pin is any net's
 --     blocked-mark                 a vertex is blocked where it is marked and none of the net's own pins
-use Prim.Native.Nat.{ℕ, zero, suc}
+use Prim.Native.Nat.{ℕ}
 use mathlib.Core.Path.{_≡_, refl, sym, ap, _∙_}
 use mathlib.Core.List.{List, [], _∷_, _++_, map}
 use mathlib.Core.Bool.{Bool, true, false, _&&_, _||_, not, cond, or-true}
@@ -17,23 +17,14 @@ use Rattle.job.specs.Grid.{Grid, Vertex, vertexNumber, inside, same}
 use Rattle.job.specs.Job.{Obstacle, Net}
 use Rattle.job.specs.Good.{GoodPin, GoodNet, Distinct, allPins}
 use Rattle.job.specs.Reading.{onObstacle}
+use Rattle.job.proofs.Tests.{nor-holds}
 use Rattle.job.proofs.Grids.{same-eq, same-refl, number-inj}
 use Rattle.marks.specs.Marks.{markOf, Marks}
 use Rattle.marks.proofs.Marking.{any-append}
 use Rattle.reader.proofs.Loaded.{all-one}
 use Rattle.rules.specs.Views.{member, othersHold, pinsOf}
 use Rattle.rules.proofs.Members.{not-both, neither}
-use Rattle.rules.proofs.Standing.{distinct-both}
-
--- of two tests neither of which holds, the second does not
-second-fails : (a b : Bool) → T (not (a || b)) → b ≡ false
-second-fails true b h = absurd h
-second-fails false true h = absurd h
-second-fails false false h = refl
-
--- a test that fails, as an equation
-fails : (b : Bool) → T (not b) → b ≡ false
-fails b h = second-fails false b h
+use Rattle.rules.proofs.Standing.{fails, distinct-both}
 
 module _ (g : Grid) (obstacles : List Obstacle) (w : Vertex) (on : T (inside g w)) where
   -- the vertex's number
@@ -72,7 +63,7 @@ module _ (g : Grid) (obstacles : List Obstacle) (w : Vertex) (on : T (inside g w
   apart-after (x ∷ xs) ys d h = by (same w x) refl h (apart-after xs ys (d .1))
     where
       by : (b : Bool) → same w x ≡ b → (b || any (same w) xs) ≡ true → (any (same w) xs ≡ true → any (same w) ys ≡ false) → any (same w) ys ≡ false
-      by true e k rest = rw (same-eq w x e) (second-fails (any (same x) xs) (any (same x) ys) (rw (any-append (same x) xs ys) at (d .0)))
+      by true e k rest = rw (same-eq w x e) (fails (any (same x) ys) (nor-holds (any (same x) xs) (any (same x) ys) .0 (rw (any-append (same x) xs ys) at (d .0)) .1))
       by false e k rest = rest k
 
   -- it is on no obstacle

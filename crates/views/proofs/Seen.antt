@@ -19,7 +19,7 @@ use Rattle.rules.specs.Views.{member, othersHold, inGuide, pinsOf, boxesOf, vie
 use Rattle.rules.specs.Seen.{holds, viewBy}
 use Rattle.rules.proofs.Vertices.{number-vertex, vertex-below}
 use Rattle.views.specs.Sight.{boxesIn, takenCode, seenByte, NetAtHand, sightOf, opened}
-use Rattle.views.proofs.Flags.{unblocked, byte-blocked, byte-taken, byte-outside, byte-opened}
+use Rattle.views.proofs.Flags.{byte-holds, byte-opened}
 use Rattle.views.proofs.Opening.{opened-at}
 use Rattle.views.proofs.Codes.{taken-code}
 use Rattle.views.proofs.Pins.{blocked-mark}
@@ -78,8 +78,8 @@ module _ {j : Job} {k : ℕ} {metal : List (List ℕ)} {marks codes pins boxes :
     blocked-at =
         let in-grid = below-inside (j .grid) (vertexBy (j .grid) v) (vertex-below (j .grid) on) in
         let told = blocked-mark (j .grid) (j .obstacles) (vertexBy (j .grid) v) in-grid (hand .net) (hand .after) (hand .before)
-            (rw (hand .nets) at (hand .job .goodNets)) (rw (hand .nets) at (hand .job .distinctPins)) (rw (hand .nets) at (hand .marked)) in
-        ap (holds 1) byte-at ∙ byte-blocked (not own && marked) taken outside ∙ sym (rw (← hand .nets, hand .index, number-vertex (j .grid) v) at told)
+        (rw (hand .nets) at (hand .job .goodNets)) (rw (hand .nets) at (hand .job .distinctPins)) (rw (hand .nets) at (hand .marked)) in
+        ap (holds 1) byte-at ∙ byte-holds (not own && marked) taken outside .0 ∙ sym (rw (← hand .nets, hand .index, number-vertex (j .grid) v) at told)
 
     -- taken: another net's metal
     taken-at : holds 2 (getD bytes v 0) ≡ othersHold k metal v
@@ -87,13 +87,13 @@ module _ {j : Job} {k : ℕ} {metal : List (List ℕ)} {marks codes pins boxes :
         let nets = ap length (hand .nets) ∙ length-append (hand .before) (hand .net ∷ hand .after) in
         let few : length metal ≤ 255 = omega (arith, hand .metals, hand .job .nets) in
         let known : k < length metal = omega (arith, hand .metals, nets, hand .index) in
-        ap (holds 2) byte-at ∙ byte-taken (not own && marked) taken outside ∙ ap (takenCode (suc k)) (hand .coded v on) ∙ sym (taken-code metal k v known few)
+        ap (holds 2) byte-at ∙ byte-holds (not own && marked) taken outside .1 ∙ ap (takenCode (suc k)) (hand .coded v on) ∙ sym (taken-code metal k v known few)
 
     -- in the guide
     guided-at : not (holds 4 (getD bytes v 0)) ≡ inGuide (boxesOf k (j .nets)) (vertexBy (j .grid) v)
     guided-at =
         let boxes = ap (boxesOf k) (hand .nets) ∙ (rw (hand .index) at (boxes-of (hand .before) (hand .net) (hand .after))) in
-        ap (λ (b : ℕ). not (holds 4 b)) byte-at ∙ ap not (byte-outside (not own && marked) taken outside) ∙ Bool·not-not _
+        ap (λ (b : ℕ). not (holds 4 b)) byte-at ∙ ap not (byte-holds (not own && marked) taken outside .2) ∙ Bool·not-not _
         ∙ ap (λ (bs : List Box). inGuide bs (vertexBy (j .grid) v)) (sym boxes)
 
   -- so the bytes' view is the net's

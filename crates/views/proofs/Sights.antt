@@ -1,7 +1,7 @@
 -- The bytes of the vertices, made in order of their numbers.
 --     sight-told                                    the byte made for a vertex is its sight
 --     SightsTo, sights-begin, sights-turn, sights-end   the loop over the vertices: before a turn, before the first, a turn, after the last
-use Prim.Native.Nat.{ℕ, suc, _+_, _≤_, _<_}
+use Prim.Native.Nat.{ℕ, _+_, _≤_, _<_}
 use mathlib.Core.Path.{_≡_, refl, ap, _∙_}
 use mathlib.Core.List.{List}
 use mathlib.Core.Bool.{Bool, not}

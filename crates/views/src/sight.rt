@@ -2,15 +2,14 @@
 ghost use mathlib.Core.Path.{_≡_};
 ghost use mathlib.Core.List.{List};
 ghost use mathlib.Core.Bool.{not, cond};
-ghost use Prim.Native.Nat.{ℕ, suc, _<_, _≤_, _-_, _%_};
+ghost use Prim.Native.Nat.{ℕ, suc, _<_, _≤_};
 ghost use lib.ListN.{length, getD, take};
 ghost use lib.Dec.{eqb};
 ghost use Rattle.job.specs.Lists.{All};
 ghost use Rattle.job.specs.Grid.{vertices};
 ghost use Rattle.job.specs.Job.{Job};
 ghost use Rattle.job.specs.Structs.{Sized, gridOf};
-ghost use Rattle.rules.specs.Views.{viewOf, inGuide};
-ghost use Rattle.rules.specs.Tracks.{vertexBy};
+ghost use Rattle.rules.specs.Views.{viewOf};
 ghost use Rattle.rules.specs.Seen.{viewBy};
 ghost use Rattle.views.specs.Sight.{boxesIn, takenCode, seenByte, NetAtHand, sightOf, opened};
 use crate::guide::in_guide;

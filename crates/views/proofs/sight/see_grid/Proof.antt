@@ -1,7 +1,6 @@
 -- `views::sight::see_grid` meets its contract: the vertices below have their bytes.
 use Prim.Native.Nat.{_-_}
 use native.Mathlib.Omega.{arith}
-use borrow.Author.Needs.{needs}
 use Rattle.job.specs.Structs.{gridOf}
 use Rattle.views.specs.Sight.{boxesIn}
 use Rattle.views.proofs.Sights.{sight-told, SightsTo, sights-begin, sights-turn, sights-end}
