@@ -108,6 +108,7 @@ module _ {j : Job} {k : ℕ} {metal : List (List ℕ)} {marks codes pins boxes :
 
 -- the bytes that the code has made
 pub seen-view : {g : Grid} {n : ℕ} {j : Job} {k : ℕ} {metal : List (List ℕ)} {marks codes pins boxes seen : List ℕ}
-    {pinCount boxCount : ℕ} (made : List ℕ) → ((v : ℕ) → v < vertices g → getD made v 0 ≡ sightOf g marks codes (boxesIn boxes 0 boxCount) n v) → seen ≡ opened (take pinCount pins) made
+    {pinCount boxCount : ℕ} (made : List ℕ)
+    → ((v : ℕ) → v < vertices g → getD made v 0 ≡ sightOf g marks codes (boxesIn boxes 0 boxCount) n v) → seen ≡ opened (take pinCount pins) made
     → g ≡ j .grid → n ≡ suc k → NetAtHand j k metal marks codes pins boxes pinCount boxCount → viewBy g seen ≡ viewOf j k metal
 seen-view made sights opens grid number hand = rw (opens, grid) (view-made hand made (rw (grid, number) at sights))

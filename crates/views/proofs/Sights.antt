@@ -1,5 +1,5 @@
 -- The bytes of the vertices, made in order of their numbers.
---     sight-told                                    the byte made for a vertex is its sight
+--     sight-told                                        the byte made for a vertex is its sight
 --     SightsTo, sights-begin, sights-turn, sights-end   the loop over the vertices: before a turn, before the first, a turn, after the last
 use Prim.Native.Nat.{ℕ, _+_, _≤_, _<_}
 use mathlib.Core.Path.{_≡_, refl, ap, _∙_}

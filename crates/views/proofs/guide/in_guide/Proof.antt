@@ -1,11 +1,9 @@
 -- `views::guide::in_guide` meets its contract: the boxes looked at so far do not hold the vertex.
 use Prim.Native.Nat.{_-_}
-use mathlib.Core.Path.{sym, ap, _∙_}
+use mathlib.Core.Path.{sym}
 use native.Mathlib.Omega.{arith}
 use borrow.Author.Needs.{needs}
-use Rattle.job.specs.Structs.{vertexOf, boxOf}
-use Rattle.job.specs.declared.groups.Box.{Box as BoxStruct}
-use Rattle.rules.specs.Views.{inBox}
+use Rattle.job.specs.Structs.{vertexOf}
 use Rattle.views.proofs.Guides.{inRest, guide-none, guide-begun, guide-inside, guide-outside, guide-done}
 use Rattle.views.proofs.guide.in_guide.Statement.{statement}
 use Rattle.views.proofs.guide.in_guide.Tie as tie
@@ -20,7 +18,7 @@ returns : tie.Need-returns Inv-loop μ-loop
 returns c = sym (guide-none _ _ _ (c .if1 .taken))
 
 loop-holds : tie.Need-loop-holds Inv-loop μ-loop
-loop-holds c = guide-begun _ _ _ (omega (arith, c .if1 .left))
+loop-holds c = guide-begun _ _ _ (omega arith)
 
 mul-box-in : tie.Need-mul-box-in Inv-loop μ-loop
 mul-box-in c = search needs
@@ -32,7 +30,7 @@ in-box-requires : tie.Need-in-box-requires Inv-loop μ-loop
 in-box-requires c κs = search needs
 
 returns-2 : tie.Need-returns-2 Inv-loop μ-loop
-returns-2 c = sym (guide-inside _ _ _ (c .before .before .before .before .loop .inv) (c .before .before .before .loop-test .taken) (ap (λ (b : BoxStruct). inBox (vertexOf (c .before .before .before .before .before .before .args .vertex)) (boxOf b)) (sym (c .before .before .box-in .ensures)) ∙ sym (c .before .in-box .ensures) ∙ c .if2 .taken))
+returns-2 c = sym (guide-inside _ _ _ (c .before .before .before .before .loop .inv) (c .before .before .before .loop-test .taken) (c .before .before .box-in .ensures) (c .before .in-box .ensures) (c .if2 .taken))
 
 add-i : tie.Need-add-i Inv-loop μ-loop
 add-i c = search needs
@@ -41,7 +39,7 @@ loop-less : tie.Need-loop-less Inv-loop μ-loop
 loop-less c = search needs
 
 loop-again : tie.Need-loop-again Inv-loop μ-loop
-loop-again c = guide-outside _ _ _ (c .before .before .before .before .loop .inv) (c .before .before .before .loop-test .taken) (ap (λ (b : BoxStruct). inBox (vertexOf (c .before .before .before .before .before .before .args .vertex)) (boxOf b)) (sym (c .before .before .box-in .ensures)) ∙ sym (c .before .in-box .ensures) ∙ c .if2 .left)
+loop-again c = guide-outside _ _ _ (c .before .before .before .before .loop .inv) (c .before .before .before .loop-test .taken) (c .before .before .box-in .ensures) (c .before .in-box .ensures) (c .if2 .left)
 
 returns-3 : tie.Need-returns-3 Inv-loop μ-loop
 returns-3 c = sym (guide-done _ _ _ (c .before .loop .inv) (c .loop-test .left))

@@ -20,42 +20,42 @@ loop-holds : tie.Need-loop-holds Inv-loop μ-loop
 loop-holds c = sights-begin _ _ _ _ _ _
 
 vertex-by-requires : tie.Need-vertex-by-requires Inv-loop μ-loop
-vertex-by-requires c κs = record { small = c .before .before .before .before .before .pre .0 .small; there = omega (arith, c .loop-test .taken, c .before .before .vertices .ensures) }
+vertex-by-requires c κs = record { small = c .before .before .before .before .before .pre .0 .small; there = omega arith }
 
 in-guide-requires : tie.Need-in-guide-requires Inv-loop μ-loop
 in-guide-requires c κs = c .before .before .before .before .before .before .pre .3
 
 element-copy-out-byte-of : tie.Need-element-copy-out-byte-of Inv-loop μ-loop
-element-copy-out-byte-of c = omega (arith, c .before .before .loop-test .taken, c .before .before .before .before .vertices .ensures, c .before .before .before .before .before .before .before .pre .0 .vertices)
+element-copy-out-byte-of c = omega arith
 
 mul-byte-of : tie.Need-mul-byte-of Inv-loop μ-loop
-mul-byte-of c = omega (arith, c .before .before .before .loop-test .taken, c .before .before .before .before .before .vertices .ensures, c .before .before .before .before .before .before .before .before .pre .0 .vertices)
+mul-byte-of c = omega arith
 
 shared-slice-read-byte-of : tie.Need-shared-slice-read-byte-of Inv-loop μ-loop
-shared-slice-read-byte-of c = omega (arith, c .before .before .before .before .loop-test .taken, c .before .before .before .before .before .before .vertices .ensures, c .before .before .before .before .before .before .before .before .before .pre .2)
+shared-slice-read-byte-of c = omega arith
 
 byte-of-requires : tie.Need-byte-of-requires Inv-loop μ-loop
 byte-of-requires c κs = tt
 
 slice-write-seen : tie.Need-slice-write-seen Inv-loop μ-loop
-slice-write-seen c = omega (arith, c .before .before .before .before .before .loop-test .taken, c .before .before .before .before .before .before .before .vertices .ensures, c .before .before .before .before .before .before .before .before .before .before .pre .1, c .before .before .before .before .before .before .loop .inv .size)
+slice-write-seen c = omega arith
 
 add-v : tie.Need-add-v Inv-loop μ-loop
-add-v c = omega (arith, c .before .before .before .before .before .loop-test .taken, c .before .before .before .before .before .before .before .vertices .ensures, c .before .before .before .before .before .before .before .before .before .before .pre .0 .vertices)
+add-v c = omega arith
 
 loop-less : tie.Need-loop-less Inv-loop μ-loop
-loop-less c = omega (arith, c .before .before .before .before .before .loop-test .taken)
+loop-less c = omega arith
 
 loop-again : tie.Need-loop-again Inv-loop μ-loop
 loop-again c =
-    sights-turn _ _ _ _ _ (c .before .before .before .before .before .before .loop .inv) (omega (arith, c .before .before .before .before .before .loop-test .taken, c .before .before .before .before .before .before .before .vertices .ensures, c .before .before .before .before .before .before .before .before .before .before .pre .1))
+    sights-turn _ _ _ _ _ (c .before .before .before .before .before .before .loop .inv) (omega arith)
     (sight-told _ _ _ _ _ _ (c .before .before .before .before .vertex-by .ensures) (c .before .before .before .in-guide .ensures) (c .byte-of .ensures))
 
 same-length : tie.Need-same-length Inv-loop μ-loop
 same-length c = c .before .loop .inv .size
 
 returns : tie.Need-returns Inv-loop μ-loop
-returns c = sights-end _ _ _ _ _ (c .before .loop .inv) (omega (arith, c .loop-test .left, c .before .before .vertices .ensures))
+returns c = sights-end _ _ _ _ _ (c .before .loop .inv) (omega arith)
 
 pub see-grid-spec : {M : Type 1} → statement M
 see-grid-spec =
