@@ -1,4 +1,5 @@
 -- Laws of the grid.
+--     below, below-inside            a vertex inside is one below the sizes
 --     same-eq, same-refl             the test for the same vertex passes at equal vertices alone
 --     below-number, number-below     a vertex number is below the number of vertices
 --     number-inj                     it says its vertex
@@ -15,7 +16,7 @@ use lib.Arith.{digits-lt, digits-div, digits-mod}
 use borrow.Author.Tests.{lt-ltb, le-ltb, le-leb, lt-leb, eq-eqb}
 use Rattle.job.specs.Lists.{all}
 use Rattle.job.specs.Grid.{Grid, Vertex, vertices, vertexNumber, inside, same, stepsColumn, nextHigh, runHigh, strideOf}
-use Rattle.job.proofs.Tests.{and-holds}
+use Rattle.job.proofs.Tests.{and-holds, tests}
 
 -- ---- inside
 
@@ -32,6 +33,11 @@ below g v h =
     let outer = and-holds (ltb (v .layer) (g .layers)) (ltb (v .row) (g .rows) && ltb (v .column) (g .columns)) .0 h in
     let inner = and-holds (ltb (v .row) (g .rows)) (ltb (v .column) (g .columns)) .0 (outer .1) in
     record { layer = ltb→lt _ _ (outer .0); row = ltb→lt _ _ (inner .0); column = ltb→lt _ _ (inner .1) }
+
+-- and one below the sizes is inside
+pub below-inside : (g : Grid) (v : Vertex) → Below g v → T (inside g v)
+unfolding inside
+below-inside g v b = simp tests (b .layer, (b .row, b .column))
 
 -- ---- the same vertex
 

@@ -1,6 +1,7 @@
 -- The code's reading with marks comes to what the document's reading says: the same refusal, or the same end with marks of all obstacles and pins.
 --     groups-refused, groups-good               obstacles, nets and tail, read with marks
 --     readRest, rest-of-job                    what they are read beside, as a part of a job's bits
+--     any-append                                a test holds in two lists where it holds in one of them
 --     many-length, nets-length, bare-marks      as many are read as asked for; marks at first
 -- Stated and proved below this file:
 --     Following     the relation of the two readings, and its laws
@@ -29,6 +30,7 @@ use Nets.{nets-follow}
 pub use Rest.{many-length, nets-length, rest-of-job}
 unfoldable pub use Rest.{readRest}
 use Marked.{marks-none}
+pub use Marked.{any-append}
 
 -- bare marks mark nothing
 pub bare-marks : (g : Grid) {m : List ℕ} → Bare m → Marks g [] [] m

@@ -14,14 +14,14 @@ use lib.ListN.{length, length-append}
 use lib.Dec.{T, lit<}
 use Rattle.bits.specs.Bits.{field, whole, fieldBits, AllBelow}
 use Rattle.bits.proofs.Laws.{length-fieldBits}
-use Rattle.job.specs.Grid.{Grid, Vertex, vertices, vertexNumber, inside}
+use Rattle.job.specs.Grid.{Grid, vertices, vertexNumber}
 use Rattle.job.specs.Job.{Job}
 use Rattle.job.specs.Good.{GoodJob}
 use Rattle.job.specs.Reading.{good, vertexAt}
 use Rattle.job.specs.Packing.{groupBits, concatBits}
 use Rattle.job.proofs.Tests.{tests}
 use Rattle.job.proofs.Binds.{steps}
-use Rattle.job.proofs.Grids.{Below, below}
+use Rattle.job.proofs.Grids.{below, below-inside}
 use Rattle.job.proofs.TwoWay.Places.{Placed, Fits, FieldsAt, widths, length-groupBits, placed-append, group-placed}
 use Rattle.job.proofs.TwoWay.Widths.{concat-bits}
 use Rattle.job.proofs.TwoWay.Groups.{inside-fits}
@@ -71,11 +71,6 @@ join-placed B at g start moves cost = simp (placed-append, start-bits, concat-bi
 holds : (b : Bool) → T b → b ≡ true
 holds true h = refl
 holds false h = absurd h
-
--- a vertex below the grid's sizes is inside
-below-inside : (g : Grid) (v : Vertex) → Below g v → T (inside g v)
-unfolding inside
-below-inside g v b = simp tests (b .layer, (b .row, b .column))
 
 -- the fields of a start hold the vertex that is read
 start-vertex : (B : List ℕ) (at : ℕ) (g : Grid) (start : ℕ) (moves : List ℕ) → FieldsAt B at (joinFields g start moves)

@@ -48,7 +48,7 @@ module _ (B : List ℕ) (bits : AllBelow 2 B) (g : Grid) (small : GoodGrid g) wh
       rw (here, boxes-loaded (at + 38) bs (rw box-bits at rest) (h .1))
 
 -- what holds of each holds of one of them
-all-one : {A : Type 0} (Claim : A → Type 0) (before : List A) (x : A) (after : List A) → All Claim (before ++ (x ∷ after)) → Claim x
+pub all-one : {A : Type 0} (Claim : A → Type 0) (before : List A) (x : A) (after : List A) → All Claim (before ++ (x ∷ after)) → Claim x
 unfolding All
 all-one Claim [] x after h = h .0
 all-one Claim (y ∷ before) x after h = all-one Claim before x after (h .1)

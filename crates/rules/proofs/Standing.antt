@@ -1,7 +1,9 @@
 -- The tree and the unjoined pins are apart in every standing.
+--     fails                        a test that fails, as an equation
 --     Stands                       in a standing they are apart
 --     begun-apart                  before the first join of a net
 --     nets-apart, net-apart        of every net of a good job, and of the k-th
+--     distinct-both                vertices of two lists that are distinct
 --     joined-apart                 after a join
 use Prim.Native.Nat.{ℕ, zero, suc, _<_}
 use mathlib.Core.Path.{_≡_, refl, sym, _∙_}
@@ -35,7 +37,7 @@ Stands t s = Apart t (s .tree) (s .unjoined)
 -- ---- before the first join
 
 -- a test that fails, as an equation
-fails : (b : Bool) → T (not b) → b ≡ false
+pub fails : (b : Bool) → T (not b) → b ≡ false
 fails true h = absurd h
 fails false h = refl
 
@@ -77,7 +79,7 @@ none-first v (x ∷ xs) ys h =
     nor-holds (same v x) (any (same v) xs) .1 (differ, none-first v xs ys rest)
 
 -- where the vertices of two lists are distinct, those of each are
-distinct-both : (xs ys : List Vertex) → Distinct (xs ++ ys) → Distinct xs × Distinct ys
+pub distinct-both : (xs ys : List Vertex) → Distinct (xs ++ ys) → Distinct xs × Distinct ys
 unfolding Distinct
 distinct-both [] ys h = (tt, h)
 distinct-both (x ∷ xs) ys h = let (left, right) = distinct-both xs ys (h .1) in ((none-first x xs ys (h .0), left), right)

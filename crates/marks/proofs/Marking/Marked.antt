@@ -1,4 +1,5 @@
 -- What marking does to marks.
+--     any-append                     a test holds in two lists where it holds in one of them
 --     any-swap                       a test holds in lists whatever their order
 --     marks-alike                    marks go by whether a vertex is on an obstacle or a pin, not by the order of the lists
 --     marks-none                     no mark is set at first
@@ -22,7 +23,7 @@ use Rattle.job.proofs.Grids.{same-eq, same-refl, number-below, number-inj}
 -- ---- lists
 
 -- a test holds in two lists where it holds in one of them
-any-append : {A : Type 0} (test : A → Bool) (xs ys : List A) → any test (xs ++ ys) ≡ (any test xs || any test ys)
+pub any-append : {A : Type 0} (test : A → Bool) (xs ys : List A) → any test (xs ++ ys) ≡ (any test xs || any test ys)
 unfolding any
 any-append test [] ys = refl
 any-append test (x ∷ xs) ys = rw (any-append test xs ys) (sym (or-assoc (test x) (any test xs) (any test ys)))

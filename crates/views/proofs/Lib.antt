@@ -1,0 +1,17 @@
+-- The laws behind the proofs of what a net sees.
+--     Guides      the guide, box by box
+--     Flags       the flags of a byte
+--     Sights      the bytes of the vertices, made in order of their numbers
+--     Opening     the blocked flag taken off the net's own pins
+--     Codes       another net's metal, told by the map's code
+--     Pins        other nets' pins and obstacles, told by the marks
+--     Seen        the bytes make the view of the net at hand
+--     Arrays      a net's boxes and pins, read back from the arrays that they are stored in
+mod Guides
+mod Flags
+mod Sights
+mod Opening
+pub mod Codes
+mod Pins
+mod Seen
+pub mod Arrays

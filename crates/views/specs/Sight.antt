@@ -1,0 +1,68 @@
+-- What the net at hand sees, made from the marks of obstacles and pins, the map's codes, and the net's pins and boxes.
+--     boxesIn                   boxes, from six numbers each
+--     takenCode                 whether a code tells of another net's metal
+--     seenByte                  the byte of a vertex
+--     NetAtHand                 the net of a job that these are of
+--     sightOf, opened           the byte of a vertex with every net's pins blocked, and with the net's own open
+use Prim.Native.Nat.{ℕ, zero, suc, _+_, _-_, _%_, _<_}
+use mathlib.Core.Path.{_≡_}
+use mathlib.Core.List.{List, [], _∷_, _++_}
+use mathlib.Core.Bool.{Bool, _&&_, not, cond}
+use lib.ListN.{length, getD, set, take}
+use lib.Dec.{eqb}
+use Rattle.job.specs.Grid.{Grid, vertices}
+use Rattle.job.specs.Job.{Box, Net, Job}
+use Rattle.job.specs.Good.{allPins, GoodJob}
+use Rattle.marks.specs.Marks.{Marks}
+use Rattle.rules.specs.Tracks.{vertexBy}
+use Rattle.rules.specs.Views.{inGuide, pinsOf}
+use Rattle.rules.specs.Maps.{netCode}
+
+-- the box whose six numbers stand from a place on
+abbrev pub boxIn : (numbers : List ℕ) → (from : ℕ) → Box
+boxIn numbers from =
+    record {
+      layerLow = getD numbers from 0;
+      layerHigh = getD numbers (from + 1) 0;
+      rowLow = getD numbers (from + 2) 0;
+      rowHigh = getD numbers (from + 3) 0;
+      columnLow = getD numbers (from + 4) 0;
+      columnHigh = getD numbers (from + 5) 0;
+    }
+
+-- n boxes from a place on
+unfoldable pub boxesIn : (numbers : List ℕ) → (from n : ℕ) → List Box
+boxesIn numbers from zero = []
+boxesIn numbers from (suc n) = boxIn numbers from ∷ boxesIn numbers (from + 6) n
+
+-- "A vertex is taken when another net's metal, extensions included, covers it."
+unfoldable pub takenCode : (n code : ℕ) → Bool
+takenCode n code = not (eqb code 0) && not (eqb code n)
+
+-- the flags that rules/specs/Seen.antt reads: 1 blocked, 2 taken, 4 outside the guide
+unfoldable pub seenByte : (blocked taken outside : Bool) → ℕ
+seenByte blocked taken outside = cond blocked 1 0 + cond taken 2 0 + cond outside 4 0
+
+-- net k of a good job, with its pins and boxes in arrays, the marks of the job, and the map's codes of the metal
+pub record NetAtHand (j : Job) (k : ℕ) (metal : List (List ℕ)) (marks codes pins boxes : List ℕ) (pinCount boxCount : ℕ) : Type 0 where
+  pub job : GoodJob j
+  pub before : List Net
+  pub net : Net
+  pub after : List Net
+  pub nets : j .nets ≡ before ++ (net ∷ after)
+  pub index : length before ≡ k
+  pub metals : length metal ≡ length (j .nets)
+  pub marked : Marks (j .grid) (j .obstacles) (allPins (j .nets)) marks
+  pub coded : (v : ℕ) → v < vertices (j .grid) → getD codes v 0 ≡ netCode 0 1 metal v
+  pub ownPins : take pinCount pins ≡ pinsOf (j .grid) net
+  pub ownBoxes : boxesIn boxes 0 boxCount ≡ net .boxes
+
+-- the byte of a vertex where every net's pins are blocked
+unfoldable pub sightOf : Grid → (marks codes : List ℕ) → List Box → (n v : ℕ) → ℕ
+sightOf g marks codes boxes n v =
+    seenByte (not (eqb (getD marks v 0) 0)) (takenCode n (getD codes v 0)) (not (inGuide boxes (vertexBy g v)))
+
+-- with the blocked flag taken off some vertices
+unfoldable pub opened : (vs seen : List ℕ) → List ℕ
+opened [] seen = seen
+opened (v ∷ vs) seen = opened vs (set seen v (getD seen v 0 - getD seen v 0 % 2))
