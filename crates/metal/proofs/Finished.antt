@@ -12,12 +12,11 @@ use native.Mathlib.Omega.{arith}
 use lib.ListN.{length, getD, set, take, drop, take-append-drop}
 use lib.Seq.{length-take-le, getD-take, getD-set-same, getD-set-other, ext-getD}
 use lib.Dec.{T, eqb}
-use Rattle.job.proofs.Tests.{tests}
 use Rattle.job.specs.Lists.{any}
 use Rattle.job.specs.Grid.{Grid, Vertex, vertices, inside, same}
 use Rattle.job.specs.Job.{Job, Obstacle}
 use Rattle.job.specs.Reading.{onObstacle}
-use Rattle.job.proofs.Grids.{Below}
+use Rattle.job.proofs.Grids.{below-inside}
 use Rattle.marks.specs.Marks.{Marks, markOf}
 use Rattle.rules.specs.Tracks.{vertexBy}
 use Rattle.rules.specs.Maps.{mapCode, codesBelow, mapOf}
@@ -79,11 +78,6 @@ module _ (j : Job) (metal : List (List ℕ)) where
   code-at from (suc n) (suc i) h =
       let place : suc from + i ≡ from + suc i = omega arith in
       code-at (suc from) n i (le-of-suc-le-suc h) ∙ ap (mapCode j metal) place
-
--- a vertex below the grid's sizes is inside
-below-inside : (g : Grid) (v : Vertex) → Below g v → T (inside g v)
-unfolding inside
-below-inside g v b = simp tests (b .layer, (b .row, b .column))
 
 -- a vertex has an obstacle's mark where it is on an obstacle
 obstacle-mark : (g : Grid) (obstacles : List Obstacle) (pins : List Vertex) (marks : List ℕ) (v : ℕ) → Marks g obstacles pins marks → v < vertices g

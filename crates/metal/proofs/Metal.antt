@@ -1,5 +1,4 @@
 -- The code of the metal on a vertex, with more metal of a net.
---     member-both     in two lists, one after the other
 --     code-empty      nets with no metal leave it
 --     code-alike      it goes by whether the vertex is there, not by the list
 --     code-apart      with none of it on the vertex it stays
@@ -17,14 +16,9 @@ use Rattle.job.specs.Lists.{any, All}
 use Rattle.rules.specs.Views.{member}
 use Rattle.rules.specs.Standings.{more}
 use Rattle.rules.specs.Maps.{netCode}
+use Rattle.rules.proofs.Members.{member-both}
 use Rattle.metal.specs.Codes.{laidCode}
 use Rattle.metal.proofs.Laid.{laid-other, laid-own, laid-several}
-
--- in two lists, one after the other, is what is in one of them
-pub member-both : (v : ℕ) (xs ys : List ℕ) → member v (xs ++ ys) ≡ (member v xs || member v ys)
-unfolding member any
-member-both v [] ys = refl
-member-both v (x ∷ xs) ys = rw (member-both v xs ys) (sym (or-assoc (eqb v x) (member v xs) (member v ys)))
 
 -- with no metal more it is the same metal
 more-none : (k : ℕ) (metal : List (List ℕ)) → more k [] metal ≡ metal

@@ -21,7 +21,7 @@ use Rattle.job.specs.declared.grid.Grid.{Grid as GridStruct}
 use Rattle.job.proofs.Grids.{number-below}
 use Rattle.job.proofs.TwoWay.{rules-hold, netAt}
 use Rattle.reader.specs.Loading.{netLoaded, NetRoom, pinsLoaded}
-use Rattle.reader.proofs.Loaded.{net-told}
+use Rattle.reader.proofs.Loaded.{all-one, net-told}
 use Rattle.rules.specs.Views.{pinsOf}
 
 -- ---- the job
@@ -53,12 +53,6 @@ job-fits bytes g j e is =
     }
 
 -- ---- a net
-
--- what holds of each holds of one of them
-all-one : {A : Type 0} (Claim : A → Type 0) (before : List A) (x : A) (after : List A) → All Claim (before ++ (x ∷ after)) → Claim x
-unfolding All
-all-one Claim [] x after h = h .0
-all-one Claim (y ∷ before) x after h = all-one Claim before x after (h .1)
 
 -- the numbers of good pins are vertices of the grid
 pins-below : (g : Grid) (obstacles : List Obstacle) (ps : List Vertex) → All (GoodPin g obstacles) ps → All (λ v. v < vertices g) (map (vertexNumber g) ps)

@@ -18,6 +18,7 @@ use Rattle.rules.specs.Tracks.{outside, at, entered}
 use Rattle.rules.specs.Segments.{Direction}
 use Rattle.rules.specs.Overheads.{toward}
 use Rattle.rules.proofs.Neighbours.{entered-below}
+use Rattle.rules.proofs.Standing.{all-at}
 use Rattle.metal.specs.Codes.{laidCode, layAll, fromEntered, beyond, zeroed, withObstacles}
 use Rattle.metal.proofs.Slices.{zeroed-more}
 
@@ -137,13 +138,6 @@ module _ {g : Grid} {net number count v : ℕ} {found : List ℕ} where
 
 -- ---- laying pins
 
--- what holds of every number of a list holds of the k-th
-all-at : (P : ℕ → Type 0) (xs : List ℕ) (k : ℕ) → All P xs → k < length xs → P (getD xs k 0)
-unfolding All
-all-at P [] k h on = absurd (not-suc-le-zero on)
-all-at P (x ∷ xs) zero h on = h .0
-all-at P (x ∷ xs) (suc k) h on = all-at P xs k (h .1) (le-of-suc-le-suc on)
-
 -- so many pins are laid, and laying the rest gives all
 pub record Laying (net count : ℕ) (pins found : List ℕ) (done : ℕ) (held : List ℕ) : Type 0 where
   pub room : count ≤ length pins
@@ -164,7 +158,7 @@ module _ {net count : ℕ} {pins found : List ℕ} where
     -- the next pin is a vertex of the map
     pub laying-below : done < count → getD pins done 0 < length held
     laying-below h =
-        let at = all-at (λ v. v < length found) (take count pins) done (so-far .below) (omega (arith, h, many)) in
+        let at = all-at (λ v. v < length found) (take count pins) done 0 (so-far .below) (omega (arith, h, many)) in
         omega (arith, at, getD-take count pins done 0 h, so-far .size)
 
     -- one more is laid

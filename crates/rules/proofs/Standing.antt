@@ -4,6 +4,7 @@
 --     begun-apart                  before the first join of a net
 --     nets-apart, net-apart        of every net of a good job, and of the k-th
 --     distinct-both                vertices of two lists that are distinct
+--     all-at                       what holds of every element holds of the k-th
 --     joined-apart                 after a join
 use Prim.Native.Nat.{ℕ, zero, suc, _<_}
 use mathlib.Core.Path.{_≡_, refl, sym, _∙_}
@@ -102,7 +103,7 @@ unfolding Begins
 nets-apart {j} good = nets-begin j (j .nets) (good .goodNets) (good .distinctPins)
 
 -- what holds of every element holds of the k-th
-all-at : {A : Type 0} (P : A → Type 0) (xs : List A) (k : ℕ) (d : A) → All P xs → k < length xs → P (getD xs k d)
+pub all-at : {A : Type 0} (P : A → Type 0) (xs : List A) (k : ℕ) (d : A) → All P xs → k < length xs → P (getD xs k d)
 unfolding All
 all-at P [] k d h on = absurd (not-suc-le-zero on)
 all-at P (x ∷ xs) zero d h on = h .0

@@ -13,14 +13,8 @@ use lib.ListN.{length, getD, set, take, drop, drop-of-length-le}
 use lib.Seq.{length-take-le, drop-cons, getD-take}
 use lib.Dec.{eqb}
 use Rattle.job.specs.Lists.{any, All}
+use Rattle.rules.proofs.Standing.{all-at}
 use Rattle.tree.specs.Spots.{Pins, putAll, begunSpots, someUnjoined}
-
--- what holds of every element holds of one by its index
-all-at : (P : ℕ → Type 0) (xs : List ℕ) (i : ℕ) → All P xs → i < length xs → P (getD xs i 0)
-unfolding All
-all-at P [] i h on = absurd (not-suc-le-zero on)
-all-at P (x ∷ xs) zero h on = h .0
-all-at P (x ∷ xs) (suc i) h on = all-at P xs i (h .1) (le-of-suc-le-suc on)
 
 module _ {pins : List ℕ} {count : ℕ} (held : Pins pins count) where
   -- so many pins are there
@@ -30,7 +24,7 @@ module _ {pins : List ℕ} {count : ℕ} (held : Pins pins count) where
   module _ {i : ℕ} (on : i < count) where
     -- a pin by its index is a vertex
     pub pin-vertex : getD pins i 0 < 16384
-    pin-vertex = rw (getD-take count pins i 0 on) at (all-at (λ v. v < 16384) (take count pins) i (held .onGrid) (rw pin-count on))
+    pin-vertex = rw (getD-take count pins i 0 on) at (all-at (λ v. v < 16384) (take count pins) i 0 (held .onGrid) (rw pin-count on))
 
     -- it is the first of those left
     pub pin-first : drop i (take count pins) ≡ getD pins i 0 ∷ drop (suc i) (take count pins)
