@@ -129,7 +129,7 @@ pub fn layer_group(s: &[u8], at: usize) -> LayerGroup
 }
 
 pub fn vertex_group(s: &[u8], at: usize) -> VertexGroup
-    requires { ⌜ at < 2 ^ 32 ⌝ }
+    requires { ⌜ at < 2 ^ 40 ⌝ }
     ensures { λ r. ⌜ r ≡ vertexGroup (now (s .entry)) at ⌝ }
 {
     let start = Cursor { at };

@@ -4,7 +4,8 @@
 --     map-own                       a vertex that the net has alone keeps its code
 --     laid-at                       a vertex's code: laid if it is one of them, else as it was
 --     laid-beyond                   from their bound on the slice is as found
---     laid-append                   one list of vertices after the other
+--     laid-append, laid-then        one list of vertices after the other; one vertex more
+--     laid-length                   the slice is as long
 use Prim.Native.Nat.{ℕ, _≤_, _<_}
 use mathlib.Core.Path.{_≡_, refl, sym, ap, _∙_}
 use mathlib.Core.List.{List, [], _∷_, _++_}
@@ -96,3 +97,15 @@ pub laid-append : (m : ℕ) (xs ys codes : List ℕ) → layAll m (xs ++ ys) cod
 unfolding layAll
 laid-append m [] ys codes = refl
 laid-append m (x ∷ xs) ys codes = laid-append m xs ys (set codes x (laidCode m (getD codes x 0)))
+
+-- it is as long
+pub laid-length : (m : ℕ) (vs codes : List ℕ) → length (layAll m vs codes) ≡ length codes
+unfolding layAll
+laid-length m [] codes = refl
+laid-length m (v ∷ vs) codes = laid-length m vs (set codes v (laidCode m (getD codes v 0))) ∙ length-set codes v _
+
+-- a list of vertices, and then one more
+pub laid-then : (m : ℕ) (vs : List ℕ) (w : ℕ) (codes : List ℕ) {mid last : List ℕ} → mid ≡ layAll m vs codes → last ≡ set mid w (laidCode m (getD mid w 0))
+    → last ≡ layAll m (vs ++ (w ∷ [])) codes
+unfolding layAll
+laid-then m vs w codes first then = then ∙ ap (λ (c : List ℕ). set c w (laidCode m (getD c w 0))) first ∙ sym (laid-append m vs (w ∷ []) codes)

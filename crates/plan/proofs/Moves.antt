@@ -67,7 +67,7 @@ agree-holds false true = (λ h. absurd h, λ e. absurd (not-both {b = false} e r
 agree-holds false false = (λ h. refl, λ e. tt)
 
 -- a move is judged good where it is legal and enters an unjoined pin just if it is the last
-judged-good : (at : ℕ) (last : Bool) (unjoined : List ℕ) (s : Stepped) (made : Made)
+pub judged-good : (at : ℕ) (last : Bool) (unjoined : List ℕ) (s : Stepped) (made : Made)
     → (judged at last unjoined s ≡ good made) ↔ ((s ≡ legal made) × (member (made .next .vertex) unjoined ≡ last))
 unfolding judged
 judged-good at last unjoined illegal made = (

@@ -74,7 +74,7 @@ length-record g start moves cost es = simp (flag-join, length-append, length-fie
 
 module _ {j : Job} (good-j : GoodJob j) (k : ℕ) (s : Standing) (apart : Stands (techOf j) s) where
   -- after a legal join the tree and the unjoined pins are apart
-  legal-apart : {start cost : ℕ} {moves : List ℕ} {next : Standing} → LegalJoin j k s start moves cost next → Stands (techOf j) next
+  pub legal-apart : {start cost : ℕ} {moves : List ℕ} {next : Standing} → LegalJoin j k s start moves cost next → Stands (techOf j) next
   legal-apart l = subst (Stands (techOf j)) (sym (l .stands)) (joined-apart k s (good-tech good-j) apart (l .route) (l .walked))
 
   -- and fewer pins are unjoined
@@ -98,7 +98,7 @@ unless-good [] done records p e = inl (refl, cc)
 unless-good (x ∷ xs) done records p e = inr (λ h. let z : _≡_ {A = ℕ} 0 1 = cc in omega arith, e)
 
 -- where pins are unjoined, records follow
-unless-some : (u : List ℕ) (done : Progress) (records : Read Progress) → (u ≡ [] → ⊥) → unlessJoined u done records ≡ records
+pub unless-some : (u : List ℕ) (done : Progress) (records : Read Progress) → (u ≡ [] → ⊥) → unlessJoined u done records ≡ records
 unfolding unlessJoined
 unless-some [] done records h = absurd (h refl)
 unless-some (x ∷ xs) done records h = refl

@@ -1,6 +1,7 @@
 -- Whether a vertex is in a list.
 --     not-both, neither              a test does not both hold and fail; both of two tests fail
---     member-none, member-here       nothing is in an empty list; in a list of one
+--     member-none, member-one        nothing is in an empty list; a vertex is in the list of it alone
+--     member-here                    in a list of one
 --     member-append, member-both     in one of two lists
 --     member-all                     what holds of every element holds of a member
 --     without-one, without-less      a pin taken out is in no longer, and no other comes in
@@ -12,7 +13,7 @@ use mathlib.Core.List.{List, [], _∷_, _++_}
 use mathlib.Core.Bool.{Bool, true, false, _||_}
 use native.Mathlib.Omega.{arith}
 use lib.Dec.{eqb}
-use borrow.Author.Tests.{eqb-true, eqb-false, ne-eqb}
+use borrow.Author.Tests.{eqb-true, eqb-false, eq-eqb, ne-eqb}
 use Rattle.job.specs.Lists.{any, All}
 use Rattle.rules.specs.Views.{member}
 use Rattle.rules.specs.Standings.{without}
@@ -53,6 +54,11 @@ member-here v w h = by (either (eqb v w) false h)
     by : (eqb v w ≡ true) ⊎ (false ≡ true) → v ≡ w
     by (inl e) = eqb-true v w e
     by (inr e) = absurd (not-both e refl)
+
+-- a vertex is in the list of it alone
+pub member-one : (v : ℕ) → member v (v ∷ []) ≡ true
+unfolding member any
+member-one v = rw (eq-eqb v v refl) refl
 
 -- in one of two lists
 pub member-append : (v : ℕ) (xs ys : List ℕ) → member v (xs ++ ys) ≡ true → (member v xs ≡ true) ⊎ (member v ys ≡ true)

@@ -3,7 +3,8 @@
 --     step-keeps           the next place is good
 --     step-costs           a move costs at least 1
 --     step-limits          a move costs at most 197,625
-use Prim.Native.Nat.{ℕ, _≤_}
+--     step-penalties       it penalises at most one segment
+use Prim.Native.Nat.{ℕ, zero, suc, _≤_}
 use mathlib.Core.Path.{_≡_, refl}
 use mathlib.Core.Bool.{Bool, true, false}
 use native.Mathlib.Omega.{arith}
@@ -11,9 +12,10 @@ use Rattle.paths.specs.Systems.{blocked, to}
 use Rattle.paths.specs.Distances.{Cost, fin, inf}
 use Rattle.rules.specs.Tracks.{Entered, outside, at, entered}
 use Rattle.rules.specs.Views.{View}
-use Rattle.rules.specs.Segments.{Place}
+use Rattle.rules.specs.Segments.{Place, Grown, back, grown}
 use Rattle.rules.specs.Prices.{Tech, entering}
-use Rattle.rules.specs.Steps.{illegal, bySegment, ifPriced, into, step, priced}
+use Rattle.rules.specs.Overheads.{Overhead, nothing, lengthened, penalised, forbidden}
+use Rattle.rules.specs.Steps.{Made, Stepped, illegal, legal, leaving, stepping, bySegment, ifPriced, into, step, priced}
 use Rattle.rules.specs.Places.{GoodPlace, GoodTech}
 use Rattle.rules.proofs.Neighbours.{entered-below}
 use Rattle.rules.proofs.Segments.{no-step, move-led}
@@ -78,3 +80,50 @@ step-costs view p m good h e = step-fits view p m good h e .0
 pub step-limits : {t : Tech} (view : View) (p : Place) (m : ℕ) {c : ℕ} {q : Place} → GoodTech t → GoodPlace t p → priced (step t view p m) ≡ to c q
     → c ≤ 197625
 step-limits view p m good h e = step-fits view p m good h e .1
+
+-- at most one segment is penalised
+Few : Stepped → Type 0
+Few illegal = Unit
+Few (legal made) = made .penalties ≤ 1
+
+-- by a via move
+leaving-few : (t : Tech) (v w enter : ℕ) (o : Overhead) → Few (leaving t v w enter o)
+unfolding Few leaving
+leaving-few t v w enter nothing = omega arith
+leaving-few t v w enter (lengthened laid) = omega arith
+leaving-few t v w enter penalised = omega arith
+leaving-few t v w enter forbidden = tt
+
+-- by a step along the track
+stepping-few : (w enter : ℕ) (r : Grown) → Few (stepping w enter r)
+unfolding Few stepping
+stepping-few w enter back = tt
+stepping-few w enter (grown s) = omega arith
+
+-- by any move
+stepped-few : (t : Tech) (view : View) (p : Place) (m : ℕ) → Few (step t view p m)
+unfolding step into ifPriced bySegment Few
+stepped-few t view p m = by (entered (t .grid) (p .vertex) m)
+  where
+    bySegments : (m w n : ℕ) → Few (bySegment t view p m w n)
+    bySegments zero w n = stepping-few w n _
+    bySegments (suc zero) w n = stepping-few w n _
+    bySegments (suc (suc k)) w n = leaving-few t (p .vertex) w n _
+
+    byPrice : (w : ℕ) (x : Cost) → Few (ifPriced x (bySegment t view p m w))
+    byPrice w inf = tt
+    byPrice w (fin n) = bySegments m w n
+
+    byBlocked : (w : ℕ) (b : Bool)
+        → Few (elim b [ true ↦ illegal | false ↦ ifPriced (entering t view (p .vertex) w m) (bySegment t view p m w) ])
+    byBlocked w true = tt
+    byBlocked w false = byPrice w (entering t view (p .vertex) w m)
+
+    by : (r : Entered) → Few (into t view p m r)
+    by outside = tt
+    by (at w) = byBlocked w (view .blocked w)
+
+-- by a legal move
+pub step-penalties : (t : Tech) (view : View) (p : Place) (m : ℕ) {made : Made} → step t view p m ≡ legal made → made .penalties ≤ 1
+unfolding Few
+step-penalties t view p m e = rw e at (stepped-few t view p m)

@@ -1,0 +1,148 @@
+-- The code's way through a plan: reading it with what stands in arrays. The laws that tie it to `readPlan` are in proofs/; no promise to a
+-- caller from outside speaks of it.
+--     Arrays, Came, andOn           what stands, in arrays; how far reading has come, or its refusal
+--     judgedMove, enterBy           a move that is read, and what it leaves
+--     Gone, movesFrom               the moves of a join
+--     startAt, costAt, joinFrom     a join
+--     netFrom                       the records of a net
+use Prim.Native.Nat.{ℕ, zero, suc, _+_, _*_}
+use mathlib.Core.List.{List, [], _∷_, _++_}
+use mathlib.Core.Bool.{Bool, _&&_, cond}
+use lib.ListN.{length, getD, set}
+use lib.Dec.{leb, eqb}
+use Rattle.bits.specs.Bits.{field}
+use Rattle.job.specs.Grid.{Grid, vertexNumber, inside}
+use Rattle.job.specs.Reading.{Read, refused, good, _>>=_, _>>_, rule, vertexAt}
+use Rattle.rules.specs.Views.{View}
+use Rattle.rules.specs.Segments.{Place}
+use Rattle.rules.specs.Prices.{Tech}
+use Rattle.rules.specs.Steps.{Made, Stepped, illegal, legal, step}
+use Rattle.rules.specs.Walks.{Sum, nothingYet, startAt}
+use Rattle.rules.specs.Routings.{Totals, withJoin, withNet}
+use Rattle.plan.specs.Reading.{group, agree}
+use Rattle.metal.specs.Codes.{layAll}
+use Rattle.tree.specs.Spots.{someUnjoined}
+
+-- the bytes of the tree, and the map's codes
+pub record Arrays : Type 0 where
+  pub spots : List ℕ
+  pub codes : List ℕ
+
+pub data Came (A : Type 0) : Type 0 where
+  came : A → Arrays → Came A
+  stopped : (refusal place : ℕ) → Arrays → Came A
+
+unfoldable pub andOn : {A B : Type 0} → Came A → (A → Arrays → Came B) → Came B
+andOn (came a arrays) on = on a arrays
+andOn (stopped n p arrays) on = stopped n p arrays
+
+-- what is read without touching the arrays
+unfoldable pub andRead : {A B : Type 0} → Arrays → Read A → (A → Came B) → Came B
+andRead arrays (refused n p) on = stopped n p arrays
+andRead arrays (good a) on = on a
+
+unfoldable pub arraysOf : {A : Type 0} → Came A → Arrays
+arraysOf (came a arrays) = arrays
+arraysOf (stopped n p arrays) = arrays
+
+-- ---- moves
+
+-- a move enters an unjoined pin just where it is the last
+unfoldable pub judgedBy : (at : ℕ) (last : Bool) (spots : List ℕ) → Stepped → Read Made
+judgedBy at last spots illegal = refused 17 at
+judgedBy at last spots (legal made) = do
+  rule 17 at (agree (eqb (getD spots (made .next .vertex) 0) 2) last)
+  good made
+
+unfoldable pub judgedMove : (bits : List ℕ) → Tech → View → (spots : List ℕ) → (last : Bool) → (at : ℕ) → Place → Read Made
+judgedMove bits t view spots last at p = do
+  group bits at 2
+  judgedBy at last spots (step t view p (field bits at 2))
+
+-- the vertices of its extension and the vertex that it enters become metal of net n, and that vertex enters the tree
+unfoldable pub enterBy : (n : ℕ) → Made → Arrays → Arrays
+enterBy n made arrays =
+    record {
+      spots = set (arrays .spots) (made .next .vertex) 1;
+      codes = layAll n (made .laid ++ (made .next .vertex ∷ [])) (arrays .codes);
+    }
+
+-- where the moves so far have led, and their sum
+pub record Gone : Type 0 where
+  pub place : Place
+  pub sum : Sum
+
+unfoldable pub goneAt : (start : ℕ) → Gone
+goneAt start = record { place = startAt start; sum = nothingYet }
+
+unfoldable pub thenMade : Sum → Made → Sum
+thenMade sum made =
+    record {
+      vertices = sum .vertices ++ (made .next .vertex ∷ []);
+      laid = sum .laid ++ made .laid;
+      cost = sum .cost + (made .enter + made .over);
+      added = sum .added + length (made .laid);
+      penalties = sum .penalties + made .penalties;
+    }
+
+unfoldable pub goneOn : Gone → Made → Gone
+goneOn gone made = record { place = made .next; sum = thenMade (gone .sum) made }
+
+unfoldable pub movesFrom : (bits : List ℕ) → Tech → View → (net n at : ℕ) → Gone → Arrays → Came Gone
+movesFrom bits t view net zero at gone arrays = came gone arrays
+movesFrom bits t view net (suc n) at gone arrays =
+    andRead arrays (judgedMove bits t view (arrays .spots) (eqb n 0) at (gone .place))
+    (λ made. movesFrom bits t view net n (at + 2) (goneOn gone made) (enterBy net made arrays))
+
+-- ---- a join, after its flag
+
+-- the start and the number of moves
+pub record Start : Type 0 where
+  pub vertex : ℕ
+  pub moves : ℕ
+
+unfoldable pub readStart : (bits : List ℕ) → Grid → (spots : List ℕ) → (at : ℕ) → Read Start
+readStart bits g spots at = do
+  group bits at 39
+  rule 16 at (inside g (vertexAt bits at) && eqb (getD spots (vertexNumber g (vertexAt bits at)) 0) 1)
+  rule 17 (at + 19) (leb 1 (field bits (at + 19) 20))
+  good (record { vertex = vertexNumber g (vertexAt bits at); moves = field bits (at + 19) 20 })
+
+unfoldable pub readCost : (bits : List ℕ) → (at cost : ℕ) → Read ℕ
+readCost bits at cost = do
+  group bits at 40
+  rule 18 at (eqb (field bits at 40) cost)
+  good (at + 40)
+
+-- a join's end, its sum, and the bit after it
+pub record Joined : Type 0 where
+  pub gone : Gone
+  pub next : ℕ
+
+unfoldable pub joinFrom : (bits : List ℕ) → Tech → View → (net at : ℕ) → Arrays → Came Joined
+joinFrom bits t view net at arrays =
+    andRead arrays (readStart bits (t .grid) (arrays .spots) at) (λ start.
+    andOn (movesFrom bits t view net (start .moves) (at + 39) (goneAt (start .vertex)) arrays) (λ gone after.
+    andRead after (readCost bits (at + 39 + 2 * start .moves) (gone .sum .cost)) (λ next.
+    came (record { gone = gone; next = next }) after)))
+
+-- ---- the records of a net
+
+-- the totals after it, and the next bit
+pub record Ended : Type 0 where
+  pub totals : Totals
+  pub next : ℕ
+
+unfoldable pub byFlag : (flag : ℕ) → Came Ended → Came Ended → Came Ended
+byFlag zero none join = none
+byFlag (suc one) none join = join
+
+unfoldable pub netFrom : (bits : List ℕ) → Tech → View → (net : ℕ) → (pins : List ℕ) → (n at : ℕ) → Totals → Arrays → Came Ended
+netFrom bits t view net pins zero at totals arrays = came (record { totals = withNet totals; next = at }) arrays
+netFrom bits t view net pins (suc n) at totals arrays =
+    cond (someUnjoined (arrays .spots) pins)
+    (andRead arrays (group bits at 1) (λ whole.
+    byFlag (field bits at 1) (came (record { totals = totals; next = at + 1 }) arrays)
+    (andOn (joinFrom bits t view net (at + 1) arrays) (λ joined after.
+    netFrom bits t view net pins n (joined .next) (withJoin totals (joined .gone .sum)) after))))
+    (came (record { totals = withNet totals; next = at }) arrays)

@@ -1,0 +1,73 @@
+-- The forms in which the code answers, each made from what Following says.
+use Prim.Native.Nat.{ℕ, _+_}
+use mathlib.Core.Path.{_≡_}
+use Rattle.job.specs.Grid.{Grid}
+use Rattle.job.specs.Reading.{Read, refused, good}
+use Rattle.rules.specs.Views.{View}
+use Rattle.rules.specs.Places.{GoodPlace}
+use Rattle.rules.specs.Steps.{Made}
+use Rattle.rules.specs.Structs.{Whole, TechFits, techBy, placeOf, madeBy}
+use Rattle.rules.specs.declared.price.Tech.{Tech as TechStruct}
+use Rattle.rules.specs.declared.step.Place.{Place as PlaceStruct}
+use Rattle.marks.specs.declared.reached.Reached.{Reached}
+use Rattle.replay.specs.Following.{Came, came, stopped, Gone, Start}
+use Rattle.rules.specs.declared.step.Made.{Made as MadeStruct}
+use Rattle.replay.specs.declared.moves.Walk.{Walk}
+use Rattle.replay.specs.declared.moves.MovesRead.{MovesRead}
+use Rattle.replay.specs.declared.judge.Judged.{Judged}
+use Rattle.replay.specs.declared.judge.Judged.the-variants as Judge
+use Rattle.replay.specs.declared.start.StartRead.{StartRead}
+
+-- ---- a move
+
+-- the code's layers and place are good
+pub record AtPlace (t : TechStruct) (p : PlaceStruct) : Type 0 where
+  pub tech : TechFits t
+  pub place : GoodPlace (techBy t) (placeOf p)
+
+unfoldable pub judgedOf : Grid → View → (v : ℕ) → Judged → Read Made
+judgedOf g view v (Judge.Refused n p) = refused n p
+judgedOf g view v (Judge.Good m) = good (madeBy g view v m)
+
+unfoldable pub WholeJudged : Grid → View → (v : ℕ) → Judged → Type 0
+WholeJudged g view v (Judge.Refused n p) = Unit
+WholeJudged g view v (Judge.Good m) = Whole g view v (m .toward) (m .added)
+
+pub record IsJudged (g : Grid) (view : View) (v : ℕ) (r : Judged) (x : Read Made) : Type 0 where
+  pub same : judgedOf g view v r ≡ x
+  pub whole : WholeJudged g view v r
+
+-- ---- a start, and a cost
+
+unfoldable pub startRead : Read Start → StartRead
+startRead (refused n p) = StartRead.Refused n p
+startRead (good start) = StartRead.At (start .vertex) (start .moves)
+
+unfoldable pub costRead : Read ℕ → Reached
+costRead (refused n p) = Reached.Refused n p
+costRead (good next) = Reached.At next
+
+-- ---- the moves of a join
+
+-- the code's walk has led to the place, at the cost, with the added steps and penalties
+pub record IsWalk (w : Walk) (gone : Gone) : Type 0 where
+  pub place : placeOf (w .place) ≡ gone .place
+  pub cost : w .cost ≡ gone .sum .cost
+  pub added : w .added ≡ gone .sum .added
+  pub penalties : w .penalties ≡ gone .sum .penalties
+
+-- refused alike, or the walk
+unfoldable pub IsMoves : MovesRead → Came Gone → Type 0
+IsMoves (MovesRead.Refused n p) (stopped m q arrays) = (n ≡ m) × (p ≡ q)
+IsMoves (MovesRead.Refused n p) (came gone arrays) = ⊥
+IsMoves (MovesRead.Walked w) (stopped m q arrays) = ⊥
+IsMoves (MovesRead.Walked w) (came gone arrays) = IsWalk w gone
+
+unfoldable pub walkOn : Walk → MadeStruct → Walk
+walkOn w m =
+    record {
+      place = m .next;
+      cost = w .cost + (m .enter + m .over);
+      added = w .added + m .added;
+      penalties = w .penalties + m .penalties;
+    }

@@ -1,0 +1,4 @@
+// Reading a plan with what stands in arrays: each move is judged before the next is read.
+pub mod judge;
+pub mod moves;
+pub mod start;
