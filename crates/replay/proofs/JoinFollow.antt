@@ -31,7 +31,7 @@ use Rattle.plan.specs.Reading.{group, Moved, JoinRead, readMoves, readJoin}
 use Rattle.plan.proofs.Moves.{moves-good}
 use Rattle.tree.specs.Spots.{Spots}
 use Rattle.tree.proofs.Marked.{spot-tree}
-use Rattle.replay.specs.Following.{Arrays, came, andOn, andRead, Gone, goneAt, movesFrom, Start, readStart, readCost, Joined, joinFrom}
+use Rattle.replay.specs.Following.{Arrays, came, andOn, andRead, Gone, goneAt, movesFrom, Start, readStart, readCost, Joined, costFrom, joinFrom}
 use Rattle.replay.proofs.Follow.{Follow, bothGood, then-assoc, follow-on, follow-read}
 use Rattle.replay.proofs.Sums.{plusSum, nothing-plus}
 use Rattle.replay.proofs.Stood.{Stood, walkedBy, stood-begun, stood-joined}
@@ -122,9 +122,9 @@ module _ (B : List ℕ) (bits : AllBelow 2 B) {j : Job} (good-j : GoodJob j) (k 
   start-follow : (at : ℕ) (start : Start) (arrays : Arrays) → k < length (s .metal) → member (start .vertex) (s .tree) ≡ true → 1 ≤ start .moves
       → Stood (j .grid) s arrays
       → Follow (JoinMeet (j .grid) k s) (after-start at start)
-      (andOn (movesFrom B (techOf j) (viewOf j k (s .metal)) (suc k) (start .moves) (at + 39) (goneAt (start .vertex)) arrays) (λ gone after.
-      andRead after (readCost B (at + 39 + 2 * start .moves) (gone .sum .cost)) (λ next. came (record { gone = gone; next = next }) after)))
-  unfolding after-start goneAt nothingYet techOf
+      (costFrom B (at + 39 + 2 * start .moves)
+      (movesFrom B (techOf j) (viewOf j k (s .metal)) (suc k) (start .moves) (at + 39) (goneAt (start .vertex)) arrays))
+  unfolding after-start goneAt nothingYet techOf costFrom
   start-follow at start arrays known on some stood =
       follow-on (JoinMeet (j .grid) k s) _ _
       (moves-follow B (viewOf j k (s .metal)) (good-tech good-j) k s (start .moves) known (at + 39) (goneAt (start .vertex)) arrays

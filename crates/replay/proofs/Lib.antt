@@ -9,3 +9,4 @@ pub mod JoinFollow
 pub mod NetFollow
 pub mod Parts
 pub mod Walking
+pub mod Joining

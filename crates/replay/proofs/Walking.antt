@@ -5,7 +5,7 @@
 --     walking-on         after a move
 --     walking-refused    a move that is refused
 --     walking-done       after the last
-use Prim.Native.Nat.{ℕ, zero, suc, _+_, _-_, _*_, _≤_, _<_}
+use Prim.Native.Nat.{ℕ, zero, suc, _+_, _-_, _*_, _^_, _≤_, _<_}
 use mathlib.Core.Path.{_≡_, refl, sym, ap, subst, _∙_}
 use mathlib.Core.List.{List, [], _∷_, _++_}
 use mathlib.Core.Bool.{Bool}
@@ -33,7 +33,7 @@ use Rattle.metal.specs.Codes.{layAll, beyond}
 use Rattle.metal.proofs.Laid.{laid-length}
 use Rattle.metal.proofs.Runs.{beyond-clear}
 use Rattle.replay.specs.Following.{Arrays, Came, came, stopped, andRead, arraysOf, judgedBy, judgedMove, enterBy, Gone, goneAt, thenMade, goneOn, movesFrom}
-use Rattle.replay.specs.Structs.{AtPlace, judgedOf, WholeJudged, IsJudged, IsWalk, IsMoves, walkOn}
+use Rattle.replay.specs.Structs.{AtPlace, judgedOf, WholeJudged, IsJudged, IsWalk, WalkFits, IsMoves, MovesFit, walkOn}
 use Rattle.replay.specs.declared.judge.Judged.{Judged}
 use Rattle.replay.specs.declared.judge.Judged.the-variants as Judge
 use Rattle.replay.specs.declared.moves.Walk.{Walk}
@@ -114,13 +114,13 @@ module _ (tech : TechStruct) (view : View) (B : List ℕ) (net count from start 
 
     -- a move that is refused
     pub walking-refused : {r : Judged} {last : Bool} {n p : ℕ} → Judges r last → last ≡ eqb left 1 → r ≡ Judge.Refused n p
-        → IsMoves (MovesRead.Refused n p) Whole-moves × ((spots ≡ arraysOf Whole-moves .spots) × (codes ≡ arraysOf Whole-moves .codes))
-    unfolding judgedOf IsMoves arraysOf andRead
+        → IsMoves (MovesRead.Refused n p) Whole-moves × (MovesFit (MovesRead.Refused n p) × ((spots ≡ arraysOf Whole-moves .spots) × (codes ≡ arraysOf Whole-moves .codes)))
+    unfolding judgedOf IsMoves MovesFit arraysOf andRead
     walking-refused {n = n} {p = p} judged isLast told =
         let read : judgedMove B (techBy tech) view spots (eqb left 1) at (placeOf (walk .place)) ≡ refused n p =
         sym (rw (told, isLast) at (judged .same)) in
         let whole : Whole-moves ≡ stopped n p (record { spots = spots; codes = codes }) = one-more ∙ ap Rest read in
-        rw whole ((refl, refl), (refl, refl))
+        rw whole ((refl, refl), (tt, (refl, refl)))
 
     -- the definition's move
     abbrev made : MadeStruct → Made
@@ -186,10 +186,12 @@ module _ (tech : TechStruct) (view : View) (B : List ℕ) (net count from start 
           })
 
   -- after the last move
-  pub walking-done : {spots codes : List ℕ} {walk : Walk} {at left : ℕ} → Walking spots codes walk at left → left ≤ 0
-      → IsMoves (MovesRead.Walked walk) Whole-moves × ((spots ≡ arraysOf Whole-moves .spots) × (codes ≡ arraysOf Whole-moves .codes))
-  unfolding movesFrom IsMoves arraysOf
-  walking-done {spots} {codes} {left = left} so-far none =
+  pub walking-done : {spots codes : List ℕ} {walk : Walk} {at left : ℕ} → Walking spots codes walk at left → left ≤ 0 → count < 2 ^ 20
+      → IsMoves (MovesRead.Walked walk) Whole-moves × (MovesFit (MovesRead.Walked walk) × ((spots ≡ arraysOf Whole-moves .spots) × (codes ≡ arraysOf Whole-moves .codes)))
+  unfolding movesFrom IsMoves MovesFit arraysOf
+  walking-done {spots} {codes} {walk} {left = left} so-far none few =
       let no-move : left ≡ 0 = omega arith in
       let whole : Whole-moves ≡ came (so-far .gone) (record { spots = spots; codes = codes }) = so-far .same ∙ rw no-move refl in
-      rw whole (so-far .is, (refl, refl))
+      let small : WalkFits walk =
+      record { cost = omega (arith, so-far .cost, few); added = omega (arith, so-far .added, few); penalties = omega (arith, so-far .penalties, few) } in
+      rw whole (so-far .is, (small, (refl, refl)))

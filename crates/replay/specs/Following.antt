@@ -3,7 +3,7 @@
 --     Arrays, Came, andOn           what stands, in arrays; how far reading has come, or its refusal
 --     judgedMove, enterBy           a move that is read, and what it leaves
 --     Gone, movesFrom               the moves of a join
---     startAt, costAt, joinFrom     a join
+--     readStart, costFrom, joinFrom  a join
 --     netFrom                       the records of a net
 use Prim.Native.Nat.{ℕ, zero, suc, _+_, _*_}
 use mathlib.Core.List.{List, [], _∷_, _++_}
@@ -119,12 +119,15 @@ pub record Joined : Type 0 where
   pub gone : Gone
   pub next : ℕ
 
+-- the cost after moves that were read
+unfoldable pub costFrom : (bits : List ℕ) → (at : ℕ) → Came Gone → Came Joined
+costFrom bits at moves =
+    andOn moves (λ gone after. andRead after (readCost bits at (gone .sum .cost)) (λ next. came (record { gone = gone; next = next }) after))
+
 unfoldable pub joinFrom : (bits : List ℕ) → Tech → View → (net at : ℕ) → Arrays → Came Joined
 joinFrom bits t view net at arrays =
     andRead arrays (readStart bits (t .grid) (arrays .spots) at) (λ start.
-    andOn (movesFrom bits t view net (start .moves) (at + 39) (goneAt (start .vertex)) arrays) (λ gone after.
-    andRead after (readCost bits (at + 39 + 2 * start .moves) (gone .sum .cost)) (λ next.
-    came (record { gone = gone; next = next }) after)))
+    costFrom bits (at + 39 + 2 * start .moves) (movesFrom bits t view net (start .moves) (at + 39) (goneAt (start .vertex)) arrays))
 
 -- ---- the records of a net
 

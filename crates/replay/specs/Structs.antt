@@ -1,5 +1,5 @@
 -- The forms in which the code answers, each made from what Following says.
-use Prim.Native.Nat.{ℕ, _+_}
+use Prim.Native.Nat.{ℕ, _+_, _^_, _≤_, _<_}
 use mathlib.Core.Path.{_≡_}
 use Rattle.job.specs.Grid.{Grid}
 use Rattle.job.specs.Reading.{Read, refused, good}
@@ -10,10 +10,12 @@ use Rattle.rules.specs.Structs.{Whole, TechFits, techBy, placeOf, madeBy}
 use Rattle.rules.specs.declared.price.Tech.{Tech as TechStruct}
 use Rattle.rules.specs.declared.step.Place.{Place as PlaceStruct}
 use Rattle.marks.specs.declared.reached.Reached.{Reached}
-use Rattle.replay.specs.Following.{Came, came, stopped, Gone, Start}
+use Rattle.replay.specs.Following.{Came, came, stopped, Gone, Start, Joined}
 use Rattle.rules.specs.declared.step.Made.{Made as MadeStruct}
 use Rattle.replay.specs.declared.moves.Walk.{Walk}
 use Rattle.replay.specs.declared.moves.MovesRead.{MovesRead}
+use Rattle.replay.specs.declared.join.JoinRead.{JoinRead}
+use Rattle.replay.specs.declared.join.JoinRead.the-variants as Join
 use Rattle.replay.specs.declared.judge.Judged.{Judged}
 use Rattle.replay.specs.declared.judge.Judged.the-variants as Judge
 use Rattle.replay.specs.declared.start.StartRead.{StartRead}
@@ -71,3 +73,27 @@ walkOn w m =
       added = w .added + m .added;
       penalties = w .penalties + m .penalties;
     }
+
+-- a walk's numbers: of fewer than 2^20 moves
+pub record WalkFits (w : Walk) : Type 0 where
+  pub cost : w .cost < 2 ^ 38
+  pub added : w .added < 2 ^ 24
+  pub penalties : w .penalties < 2 ^ 20
+
+unfoldable pub MovesFit : MovesRead → Type 0
+MovesFit (MovesRead.Refused n p) = Unit
+MovesFit (MovesRead.Walked w) = WalkFits w
+
+-- ---- a join
+
+-- refused alike, or the walk and the next bit
+unfoldable pub IsJoin : JoinRead → Came Joined → Type 0
+IsJoin (Join.Refused n p) (stopped m q arrays) = (n ≡ m) × (p ≡ q)
+IsJoin (Join.Refused n p) (came joined arrays) = ⊥
+IsJoin (Join.Joined w next) (stopped m q arrays) = ⊥
+IsJoin (Join.Joined w next) (came joined arrays) = IsWalk w (joined .gone) × (next ≡ joined .next)
+
+-- the walk's numbers are small, and the next bit is not far
+unfoldable pub JoinFits : (most : ℕ) → JoinRead → Type 0
+JoinFits most (Join.Refused n p) = Unit
+JoinFits most (Join.Joined w next) = WalkFits w × (next ≤ most)

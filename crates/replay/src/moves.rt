@@ -10,7 +10,7 @@ ghost use Rattle.rules.specs.Seen.{viewBy};
 ghost use Rattle.rules.specs.Structs.{TechFits, techBy, directionOf};
 ghost use Rattle.metal.specs.Codes.{layAll, beyond};
 ghost use Rattle.replay.specs.Following.{arraysOf, goneAt, movesFrom};
-ghost use Rattle.replay.specs.Structs.{IsMoves, walkOn};
+ghost use Rattle.replay.specs.Structs.{IsMoves, MovesFit, walkOn};
 use crate::judge::Judged;
 use crate::judge::judge_move;
 use job::grid::Grid;
@@ -86,6 +86,7 @@ pub fn read_moves(
         × (count < 2 ^ 20) × (from < 2 ^ 38) ⌝ }
     ensures answer { λ r. ⌜ IsMoves r (movesFrom (bitsOf (now (plan .entry))) (techBy tech) (viewBy (gridOf (tech .grid)) (now (seen .entry))) net count from
         (goneAt start) (record { spots = now (spots .entry); codes = now (map .entry) })) ⌝ }
+    ensures fits { λ r. ⌜ MovesFit r ⌝ }
     ensures spots { λ _. ⌜ now (spots .exit) ≡ arraysOf (movesFrom (bitsOf (now (plan .entry))) (techBy tech)
         (viewBy (gridOf (tech .grid)) (now (seen .entry))) net count from (goneAt start)
         (record { spots = now (spots .entry); codes = now (map .entry) })) .spots ⌝ }

@@ -5,4 +5,5 @@ pub mod price;
 pub mod seen;
 pub mod segment;
 pub mod step;
+pub mod totals;
 pub mod track;
