@@ -10,3 +10,5 @@ pub mod NetFollow
 pub mod Parts
 pub mod Walking
 pub mod Joining
+pub mod Kept
+pub mod Recording

@@ -1,6 +1,10 @@
 -- The forms in which the code answers, each made from what Following says.
-use Prim.Native.Nat.{ℕ, _+_, _^_, _≤_, _<_}
+use Prim.Native.Nat.{ℕ, _+_, _*_, _^_, _≤_, _<_}
 use mathlib.Core.Path.{_≡_}
+use mathlib.Core.List.{List}
+use mathlib.Core.Bool.{cond}
+use lib.Dec.{eqb}
+use Rattle.bits.specs.Bits.{field, whole}
 use Rattle.job.specs.Grid.{Grid}
 use Rattle.job.specs.Reading.{Read, refused, good}
 use Rattle.rules.specs.Views.{View}
@@ -10,10 +14,15 @@ use Rattle.rules.specs.Structs.{Whole, TechFits, techBy, placeOf, madeBy}
 use Rattle.rules.specs.declared.price.Tech.{Tech as TechStruct}
 use Rattle.rules.specs.declared.step.Place.{Place as PlaceStruct}
 use Rattle.marks.specs.declared.reached.Reached.{Reached}
-use Rattle.replay.specs.Following.{Came, came, stopped, Gone, Start, Joined}
+use Rattle.replay.specs.Following.{Came, came, stopped, Gone, Start, Joined, Ended}
 use Rattle.rules.specs.declared.step.Made.{Made as MadeStruct}
 use Rattle.replay.specs.declared.moves.Walk.{Walk}
 use Rattle.replay.specs.declared.moves.MovesRead.{MovesRead}
+use Rattle.rules.specs.Routings.{Totals}
+use Rattle.rules.specs.declared.totals.Totals.{Totals as TotalsStruct}
+use Rattle.replay.specs.declared.net.Flag.{Flag}
+use Rattle.replay.specs.declared.net.Flag.the-variants as Flags
+use Rattle.replay.specs.declared.net.NetRead.{NetRead}
 use Rattle.replay.specs.declared.join.JoinRead.{JoinRead}
 use Rattle.replay.specs.declared.join.JoinRead.the-variants as Join
 use Rattle.replay.specs.declared.judge.Judged.{Judged}
@@ -97,3 +106,31 @@ IsJoin (Join.Joined w next) (came joined arrays) = IsWalk w (joined .gone) × (n
 unfoldable pub JoinFits : (most : ℕ) → JoinRead → Type 0
 JoinFits most (Join.Refused n p) = Unit
 JoinFits most (Join.Joined w next) = WalkFits w × (next ≤ most)
+
+-- ---- the records of a net
+
+-- cut, none, or a join
+unfoldable pub flagOf : (bits : List ℕ) → (at : ℕ) → Flag
+flagOf bits at = cond (whole bits at 1) (cond (eqb (field bits at 1) 0) Flags.None Flags.Join) Flags.Cut
+
+abbrev pub totalsOf : TotalsStruct → Totals
+totalsOf t = record { cost = t .cost; added = t .added; penalties = t .penalties; joined = t .joined }
+
+-- the totals of at most n records, and how far they reach
+pub record Bounded (n : ℕ) (totals : TotalsStruct) (at : ℕ) : Type 0 where
+  pub cost : totals .cost ≤ 2 ^ 38 * n
+  pub added : totals .added ≤ 2 ^ 24 * n
+  pub penalties : totals .penalties ≤ 2 ^ 20 * n
+  pub joined : totals .joined ≤ n
+  pub reach : at ≤ 2 ^ 23 * n
+
+-- refused alike, or the totals and the next bit
+unfoldable pub IsNet : NetRead → Came Ended → Type 0
+IsNet (NetRead.Refused n p) (stopped m q arrays) = (n ≡ m) × (p ≡ q)
+IsNet (NetRead.Refused n p) (came ended arrays) = ⊥
+IsNet (NetRead.Ended totals next) (stopped m q arrays) = ⊥
+IsNet (NetRead.Ended totals next) (came ended arrays) = (totalsOf totals ≡ ended .totals) × (next ≡ ended .next)
+
+unfoldable pub NetFits : (n : ℕ) → NetRead → Type 0
+NetFits n (NetRead.Refused m p) = Unit
+NetFits n (NetRead.Ended totals next) = Bounded n totals next

@@ -2,4 +2,5 @@
 pub mod join;
 pub mod judge;
 pub mod moves;
+pub mod net;
 pub mod start;
