@@ -12,3 +12,4 @@ pub mod Walking
 pub mod Joining
 pub mod Kept
 pub mod Recording
+pub mod Netting

@@ -5,8 +5,16 @@ use mathlib.Core.List.{List}
 use mathlib.Core.Bool.{cond}
 use lib.Dec.{eqb}
 use Rattle.bits.specs.Bits.{field, whole}
-use Rattle.job.specs.Grid.{Grid}
-use Rattle.job.specs.Reading.{Read, refused, good}
+use lib.ListN.{length}
+use Rattle.job.specs.Grid.{Grid, vertices}
+use Rattle.job.specs.Job.{Job}
+use Rattle.job.specs.Good.{allPins}
+use Rattle.job.specs.Reading.{Read, refused, good, jobHead, netsAt, readJob}
+use Rattle.rules.specs.Prices.{techOf}
+use Rattle.rules.specs.Standings.{metalAtFirst}
+use Rattle.plan.specs.Reading.{Progress}
+use Rattle.metal.specs.Codes.{Codes}
+use Rattle.marks.specs.Marks.{Marks}
 use Rattle.rules.specs.Views.{View}
 use Rattle.rules.specs.Places.{GoodPlace}
 use Rattle.rules.specs.Steps.{Made}
@@ -134,3 +142,23 @@ IsNet (NetRead.Ended totals next) (came ended arrays) = (totalsOf totals ≡ end
 unfoldable pub NetFits : (n : ℕ) → NetRead → Type 0
 NetFits n (NetRead.Refused m p) = Unit
 NetFits n (NetRead.Ended totals next) = Bounded n totals next
+
+-- ---- all nets
+
+-- a job that was read, with what the code holds of it: layers, marks, and the map's codes of its pins
+pub record NetsHeld (bytes : List ℕ) (tech : TechStruct) (marks codes : List ℕ) (count start : ℕ) : Type 0 where
+  pub job : Job
+  pub read : readJob bytes ≡ good job
+  pub layers : techBy tech ≡ techOf job
+  pub fits : TechFits tech
+  pub nets : length (job .nets) ≡ count
+  pub from : netsAt (jobHead job) ≡ start
+  pub marked : Marks (job .grid) (job .obstacles) (allPins (job .nets)) marks
+  pub coded : Codes (job .grid) (metalAtFirst job) codes
+  pub room : vertices (job .grid) ≤ length codes
+
+-- refused alike; or the totals and the next bit, and the codes are those of the metal
+unfoldable pub IsNets : Grid → NetRead → Read Progress → (codes : List ℕ) → Type 0
+IsNets g (NetRead.Refused n p) x codes = x ≡ refused n p
+IsNets g (NetRead.Ended totals next) x codes =
+    (all : Progress) × (x ≡ good all) × (totalsOf totals ≡ all .totals) × (next ≡ all .at) × Codes g (all .metal) codes

@@ -3,4 +3,5 @@ pub mod join;
 pub mod judge;
 pub mod moves;
 pub mod net;
+pub mod nets;
 pub mod start;

@@ -1,5 +1,5 @@
 -- What the tree's bytes tell.
---     spots-begun        before the first join of a net
+--     spots-begun, begun-long   before the first join of a net
 --     spots-entered      after a vertex is entered
 --     spots-alike        the tree goes by its members
 --     spots-joined       a pin on the tree is no longer unjoined
@@ -69,6 +69,14 @@ spots-begun g (first ∷ others) metal few on v h =
     by : (a b : Bool) → _≡_ {A = ℕ} (cond a 1 (cond (a || b) 2 0)) (cond (a || false) 1 (cond b 2 0))
     by true b = refl
     by false b = refl
+
+-- the bytes are as many
+pub begun-long : (pins : List ℕ) → length (begunSpots pins (replicate 16384 0)) ≡ 16384
+unfolding begunSpots
+begun-long [] = length-replicate {A = ℕ} 16384 0
+begun-long (first ∷ others) =
+    length-set (putAll 2 (first ∷ others) (replicate 16384 0)) first 1 ∙ length-put 2 (first ∷ others) (replicate 16384 0)
+    ∙ length-replicate {A = ℕ} 16384 0
 
 -- after a vertex is entered
 pub spots-entered : (g : Grid) (tree unjoined spots : List ℕ) (w : ℕ) → w < length spots → Spots g tree unjoined spots

@@ -1,0 +1,118 @@
+// Reading a plan net by net.
+ghost use mathlib.Core.Path.{_≡_};
+ghost use Prim.Native.Nat.{_<_, _≤_, _+_, _*_};
+ghost use lib.ListN.{length, take, replicate};
+ghost use Rattle.bits.specs.Bits.{bitsOf};
+ghost use Rattle.job.specs.Grid.{vertices};
+ghost use Rattle.job.specs.Job.{Job};
+ghost use Rattle.job.specs.Reading.{good, readJob};
+ghost use Rattle.job.specs.Structs.{gridOf};
+ghost use Rattle.rules.specs.Standings.{metalAtFirst};
+ghost use Rattle.rules.specs.Routings.{noTotals};
+ghost use Rattle.rules.specs.Seen.{viewBy};
+ghost use Rattle.rules.specs.Structs.{TechFits, techBy};
+ghost use Rattle.plan.specs.Reading.{readNets};
+ghost use Rattle.metal.specs.Codes.{Beyond};
+ghost use Rattle.tree.specs.Spots.{Pins, begunSpots};
+ghost use Rattle.replay.specs.Following.{arraysOf, netFrom};
+ghost use Rattle.replay.specs.Structs.{totalsOf, Bounded, IsNet, NetFits, NetsHeld, IsNets};
+use crate::net::NetRead;
+use crate::net::read_records;
+use reader::load::load_net;
+use rules::price::Tech;
+use rules::totals::Totals;
+use rules::totals::no_totals;
+use tree::begin_tree;
+use views::sight::see_net;
+
+// A net's tree starts as its first pin.
+pub fn read_net(
+    tech: Tech,
+    seen: &[u8; 16384],
+    map: &mut [u16],
+    plan: &[u8],
+    net: u16,
+    pins: &[usize; 16],
+    count: usize,
+    from: usize,
+    before: Totals,
+) -> NetRead
+    requires { ⌜ (TechFits tech) × (vertices (gridOf (tech .grid)) ≤ length (now map)) × (Pins (now pins) count) × (net < 256)
+        × (Bounded (16 * net) before from) ⌝ }
+    ensures answer { λ r. ⌜ IsNet r (netFrom (bitsOf (now (plan .entry))) (techBy tech) (viewBy (gridOf (tech .grid)) (now (seen .entry))) net
+        (take count (now (pins .entry))) count from (totalsOf before)
+        (record { spots = begunSpots (take count (now (pins .entry))) (replicate 16384 0); codes = now (map .entry) })) ⌝ }
+    ensures fits { λ r. ⌜ NetFits (16 * net + 16) r ⌝ }
+    ensures map { λ _. ⌜ now (map .exit) ≡ arraysOf (netFrom (bitsOf (now (plan .entry))) (techBy tech)
+        (viewBy (gridOf (tech .grid)) (now (seen .entry))) net (take count (now (pins .entry))) count from (totalsOf before)
+        (record { spots = begunSpots (take count (now (pins .entry))) (replicate 16384 0); codes = now (map .entry) })) .codes ⌝ }
+{
+    let mut spots = [0u8; 16384];
+    begin_tree(&mut spots, pins, count);
+    read_records(
+        tech,
+        seen,
+        &mut spots,
+        map,
+        plan,
+        net,
+        pins,
+        count,
+        from,
+        before,
+    )
+}
+
+// All nets, in job order.
+pub fn read_nets(
+    s: &[u8],
+    tech: Tech,
+    marks: &[u8; 16384],
+    map: &mut [u16],
+    plan: &[u8],
+    nets: usize,
+    from: usize,
+) -> NetRead
+    requires { ⌜ NetsHeld (now s) tech (now marks) (now map) nets from ⌝ }
+    ensures answer { λ r. ⌜ ((j : Job) → readJob (now (s .entry)) ≡ good j
+        → IsNets (gridOf (tech .grid)) r (readNets (bitsOf (now (plan .entry))) j 0 (j .nets) (metalAtFirst j) noTotals 0) (now (map .exit))) ⌝ }
+    ensures fits { λ r. ⌜ NetFits 4112 r ⌝ }
+    ensures kept { λ _. ⌜ Beyond (vertices (gridOf (tech .grid))) (now (map .exit)) (now (map .entry)) ⌝ }
+{
+    let mut seen = [0u8; 16384];
+    let mut pins: [usize; 16] = [0; 16];
+    let mut boxes: [usize; 90] = [0; 90];
+    let mut place = from;
+    let mut at: usize = 0;
+    let mut totals = no_totals();
+    let mut net: u16 = 0;
+    let mut left = nets;
+    while 0 < left {
+        let loaded = load_net(s, tech.grid, place, &mut pins, &mut boxes);
+        net += 1;
+        see_net(
+            &mut seen,
+            marks,
+            map,
+            tech.grid,
+            &pins,
+            loaded.pins,
+            &boxes,
+            loaded.boxes,
+            net,
+        );
+        let read = read_net(tech, &seen, map, plan, net, &pins, loaded.pins, at, totals);
+        match read {
+            NetRead::Refused(refusal, bit) => {
+                return NetRead::Refused(refusal, bit);
+            }
+            NetRead::Ended(after, next) => {
+                totals = after;
+                at = next;
+            }
+        }
+        place = loaded.next;
+        left -= 1;
+    }
+    NetRead::Ended(totals, at)
+}
