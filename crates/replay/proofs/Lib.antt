@@ -13,3 +13,5 @@ pub mod Joining
 pub mod Kept
 pub mod Recording
 pub mod Netting
+pub mod Tails
+pub mod Wholes

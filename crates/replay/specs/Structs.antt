@@ -1,19 +1,19 @@
 -- The forms in which the code answers, each made from what Following says.
-use Prim.Native.Nat.{ℕ, _+_, _*_, _^_, _≤_, _<_}
+use Prim.Native.Nat.{ℕ, _+_, _-_, _*_, _^_, _≤_, _<_}
 use mathlib.Core.Path.{_≡_}
-use mathlib.Core.List.{List}
-use mathlib.Core.Bool.{cond}
-use lib.Dec.{eqb}
-use Rattle.bits.specs.Bits.{field, whole}
-use lib.ListN.{length}
+use mathlib.Core.List.{List, _++_}
+use mathlib.Core.Bool.{_&&_, cond}
+use lib.Dec.{ltb, eqb}
+use Rattle.bits.specs.Bits.{field, whole, number}
+use lib.ListN.{length, drop}
 use Rattle.job.specs.Grid.{Grid, vertices}
 use Rattle.job.specs.Job.{Job}
 use Rattle.job.specs.Good.{allPins}
-use Rattle.job.specs.Reading.{Read, refused, good, jobHead, netsAt, readJob}
+use Rattle.job.specs.Reading.{Read, refused, good, _>>=_, _>>_, rule, jobHead, netsAt, readJob}
 use Rattle.rules.specs.Prices.{techOf}
 use Rattle.rules.specs.Standings.{metalAtFirst}
 use Rattle.plan.specs.Reading.{Progress}
-use Rattle.metal.specs.Codes.{Codes}
+use Rattle.metal.specs.Codes.{Codes, zeroed, withObstacles}
 use Rattle.marks.specs.Marks.{Marks}
 use Rattle.rules.specs.Views.{View}
 use Rattle.rules.specs.Places.{GoodPlace}
@@ -26,11 +26,13 @@ use Rattle.replay.specs.Following.{Came, came, stopped, Gone, Start, Joi
 use Rattle.rules.specs.declared.step.Made.{Made as MadeStruct}
 use Rattle.replay.specs.declared.moves.Walk.{Walk}
 use Rattle.replay.specs.declared.moves.MovesRead.{MovesRead}
-use Rattle.rules.specs.Routings.{Totals}
+use Rattle.rules.specs.Routings.{Totals, Routed}
+use Rattle.rules.specs.Maps.{mapOf}
 use Rattle.rules.specs.declared.totals.Totals.{Totals as TotalsStruct}
 use Rattle.replay.specs.declared.net.Flag.{Flag}
 use Rattle.replay.specs.declared.net.Flag.the-variants as Flags
 use Rattle.replay.specs.declared.net.NetRead.{NetRead}
+use Rattle.replay.specs.declared.whole.Replayed.{Replayed}
 use Rattle.replay.specs.declared.join.JoinRead.{JoinRead}
 use Rattle.replay.specs.declared.join.JoinRead.the-variants as Join
 use Rattle.replay.specs.declared.judge.Judged.{Judged}
@@ -162,3 +164,42 @@ unfoldable pub IsNets : Grid → NetRead → Read Progress → (codes : List ℕ
 IsNets g (NetRead.Refused n p) x codes = x ≡ refused n p
 IsNets g (NetRead.Ended totals next) x codes =
     (all : Progress) × (x ≡ good all) × (totalsOf totals ≡ all .totals) × (next ≡ all .at) × Codes g (all .metal) codes
+
+-- ---- a whole plan
+
+-- a job that was read, with what the code holds of it
+pub record PlanHeld (bytes : List ℕ) (tech : TechStruct) (marks map : List ℕ) (count start : ℕ) : Type 0 where
+  pub job : Job
+  pub read : readJob bytes ≡ good job
+  pub layers : techBy tech ≡ techOf job
+  pub fits : TechFits tech
+  pub nets : length (job .nets) ≡ count
+  pub from : netsAt (jobHead job) ≡ start
+  pub marked : Marks (job .grid) (job .obstacles) (allPins (job .nets)) marks
+  pub room : vertices (job .grid) ≤ length map
+
+-- refused alike, or the totals
+unfoldable pub IsReplayed : Replayed → Read Routed → Type 0
+IsReplayed (Replayed.Refused n p) x = x ≡ refused n p
+IsReplayed (Replayed.Good totals) x = (r : Routed) × (x ≡ good r) × (totalsOf totals ≡ r .totals)
+
+-- the tail, after all nets were read
+unfoldable pub planFrom : (bits : List ℕ) → Read Progress → Read Routed
+planFrom bits x = do
+  all ← x
+  rule 15 (all .at) (ltb (length bits - all .at) 8 && eqb (number (drop (all .at) bits)) 0)
+  good (record { entries = all .entries; metal = all .metal; totals = all .totals })
+
+-- what the code answers of the tail
+abbrev pub IsEnd : (bits : List ℕ) → NetRead → Replayed → Type 0
+IsEnd bits read r = (g : Grid) (x : Read Progress) (codes : List ℕ) → IsNets g read x codes → IsReplayed r (planFrom bits x)
+
+-- the map at the end
+unfoldable pub finishedMap : (marks : List ℕ) → (count : ℕ) → Replayed → (map : List ℕ) → List ℕ
+finishedMap marks count (Replayed.Refused n p) map = zeroed count map
+finishedMap marks count (Replayed.Good totals) map = withObstacles marks count map
+
+-- "needed parts of map and work zero"; or the map of the metal. What lies past the need is as found
+unfoldable pub replayedMap : Job → Read Routed → (map : List ℕ) → List ℕ
+replayedMap j (refused n p) map = zeroed (vertices (j .grid)) map
+replayedMap j (good r) map = mapOf j (r .metal) ++ drop (vertices (j .grid)) map

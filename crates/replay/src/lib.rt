@@ -5,3 +5,5 @@ pub mod moves;
 pub mod net;
 pub mod nets;
 pub mod start;
+pub mod tail;
+pub mod whole;

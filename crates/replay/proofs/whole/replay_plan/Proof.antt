@@ -1,0 +1,50 @@
+-- `replay::whole::replay_plan` meets its contract.
+use mathlib.Core.Path.{ap, _∙_}
+use native.Mathlib.Omega.{arith}
+use borrow.Author.Needs.{needs}
+use Rattle.replay.proofs.Wholes.{plan-room, pins-held, nets-held, plan-answer, after-long, plan-map, count-zeroed, count-finished, bare-long}
+use Rattle.replay.proofs.whole.replay_plan.Statement.{statement}
+use Rattle.replay.proofs.whole.replay_plan.Tie as tie
+
+vertices-requires : tie.Need-vertices-requires
+vertices-requires c κs = c .before .before .before .pre .fits .sized .small
+
+zero-codes-requires : tie.Need-zero-codes-requires
+zero-codes-requires c κs = rw (c .before .vertices .ensures) (plan-room _ _ _ _ _ _ (c .before .before .before .before .before .pre))
+
+lay-all-pins-requires : tie.Need-lay-all-pins-requires
+lay-all-pins-requires c κs =
+    (pins-held _ _ _ _ _ _ (c .before .before .before .before .before .before .before .before .before .pre), bare-long _ _ _ _ _ _ (c .before .before .before .before .before .before .before .before .before .pre) (count-zeroed _ (c .before .before .before .before .before .vertices .ensures) (c .before .before .before .zero-codes .ensures)))
+
+read-nets-requires : tie.Need-read-nets-requires
+read-nets-requires c κs =
+    nets-held _ _ _ _ _ _ (c .before .before .before .before .before .before .before .before .before .before .before .before .before .pre) (count-zeroed _ (c .before .before .before .before .before .before .before .before .before .vertices .ensures) (c .before .before .before .before .before .before .before .zero-codes .ensures)) (c .before .before .before .lay-all-pins .ensures .0) (c .before .before .before .lay-all-pins .ensures .1)
+
+end-plan-requires : tie.Need-end-plan-requires
+end-plan-requires c κs = c .before .before .read-nets .ensures .1 .0
+
+finish-map-requires : tie.Need-finish-map-requires
+finish-map-requires c κs =
+    rw (c .before .before .before .before .before .before .before .before .before .before .before .before .before .before .vertices .ensures) (
+      c .before .before .before .before .before .before .before .before .before .before .before .before .before .before .before .before .before .before .pre .fits .sized .vertices,
+      after-long _ _ _ _ _ _ (c .before .before .before .before .before .before .before .before .before .before .before .before .before .before .before .before .before .before .pre) (count-zeroed _ (c .before .before .before .before .before .before .before .before .before .before .before .before .before .before .vertices .ensures) (c .before .before .before .before .before .before .before .before .before .before .before .before .zero-codes .ensures)) (c .before .before .before .before .before .before .before .before .lay-all-pins .ensures .0) (c .before .before .before .before .before .before .before .before .lay-all-pins .ensures .1)
+          (c .before .before .before .before .read-nets .ensures .1 .1),
+    )
+
+same-length : tie.Need-same-length
+same-length c = search needs
+
+returns : tie.Need-returns
+returns c = (
+  plan-answer _ _ _ _ _ _ (c .before .before .before .before .before .before .before .before .before .before .before .before .before .before .before .before .before .before .before .before .before .pre) (count-zeroed _ (c .before .before .before .before .before .before .before .before .before .before .before .before .before .before .before .before .before .vertices .ensures) (c .before .before .before .before .before .before .before .before .before .before .before .before .before .before .before .zero-codes .ensures)) (c .before .before .before .before .before .before .before .before .before .before .before .lay-all-pins .ensures .0) (c .before .before .before .before .before .before .before .before .before .before .before .lay-all-pins .ensures .1)
+      _ _ _ (c .before .before .before .before .before .before .before .read-nets .ensures .0) (c .before .before .before .before .before .before .before .read-nets .ensures .1 .1) (c .before .before .before .before .end-plan .ensures)
+      (count-finished _ _ _ (c .before .before .before .before .before .before .before .before .before .before .before .before .before .before .before .before .before .vertices .ensures) (c .before .before .finish-map .ensures)),
+  plan-map _ _ _ _ _ _ (c .before .before .before .before .before .before .before .before .before .before .before .before .before .before .before .before .before .before .before .before .before .pre) (count-zeroed _ (c .before .before .before .before .before .before .before .before .before .before .before .before .before .before .before .before .before .vertices .ensures) (c .before .before .before .before .before .before .before .before .before .before .before .before .before .before .before .zero-codes .ensures)) (c .before .before .before .before .before .before .before .before .before .before .before .lay-all-pins .ensures .0) (c .before .before .before .before .before .before .before .before .before .before .before .lay-all-pins .ensures .1)
+      _ _ _ (c .before .before .before .before .before .before .before .read-nets .ensures .0) (c .before .before .before .before .before .before .before .read-nets .ensures .1 .1) (c .before .before .before .before .end-plan .ensures)
+      (count-finished _ _ _ (c .before .before .before .before .before .before .before .before .before .before .before .before .before .before .before .before .before .vertices .ensures) (c .before .before .finish-map .ensures)),
+)
+
+pub replay-plan-spec : {M : Type 1} → statement M
+replay-plan-spec =
+    tie.close (tie.spec vertices-requires zero-codes-requires lay-all-pins-requires read-nets-requires end-plan-requires finish-map-requires
+    same-length returns)

@@ -1,0 +1,73 @@
+// Reading a whole plan.
+ghost use mathlib.Core.Path.{_≡_};
+ghost use Prim.Native.Nat.{_≤_};
+ghost use lib.ListN.{length};
+ghost use Rattle.bits.specs.Bits.{bitsOf};
+ghost use Rattle.job.specs.Job.{Job};
+ghost use Rattle.job.specs.Reading.{good, readJob};
+ghost use Rattle.plan.specs.Reading.{readPlan};
+ghost use Rattle.replay.specs.Structs.{NetFits, IsEnd, PlanHeld, IsReplayed, finishedMap, replayedMap};
+use crate::net::NetRead;
+use crate::nets::read_nets;
+use crate::tail::zero_tail;
+use metal::codes::put_obstacles;
+use metal::pins::lay_all_pins;
+use metal::zeros::zero_codes;
+use rules::price::Tech;
+use rules::totals::Totals;
+
+pub enum Replayed {
+    Refused(usize, usize),
+    Good(Totals),
+}
+
+// The tail after the last net.
+pub fn end_plan(plan: &[u8], read: NetRead) -> Replayed
+    requires { ⌜ NetFits 4112 read ⌝ }
+    ensures { λ r. ⌜ IsEnd (bitsOf (now (plan .entry))) read r ⌝ }
+{
+    match read {
+        NetRead::Refused(refusal, place) => Replayed::Refused(refusal, place),
+        NetRead::Ended(totals, at) => {
+            if zero_tail(plan, at) {
+                Replayed::Good(totals)
+            } else {
+                Replayed::Refused(15, at)
+            }
+        }
+    }
+}
+
+// Obstacles are put into the map of a good plan; after a refusal it is zero.
+pub fn finish_map(map: &mut [u16], marks: &[u8; 16384], count: usize, replayed: Replayed)
+    requires { ⌜ (count ≤ 16384) × (count ≤ length (now map)) ⌝ }
+    ensures { λ _. ⌜ now (map .exit) ≡ finishedMap (now (marks .entry)) count replayed (now (map .entry)) ⌝ }
+{
+    match replayed {
+        Replayed::Good(_totals) => put_obstacles(map, marks, count),
+        Replayed::Refused(_refusal, _place) => zero_codes(map, count),
+    }
+}
+
+// The totals and the map of a plan, or its refusal.
+pub fn replay_plan(
+    s: &[u8],
+    tech: Tech,
+    marks: &[u8; 16384],
+    map: &mut [u16],
+    plan: &[u8],
+    nets: usize,
+    from: usize,
+) -> Replayed
+    requires { ⌜ PlanHeld (now s) tech (now marks) (now map) nets from ⌝ }
+    ensures answer { λ r. ⌜ ((j : Job) → readJob (now (s .entry)) ≡ good j → IsReplayed r (readPlan j (now (plan .entry)))) ⌝ }
+    ensures map { λ _. ⌜ ((j : Job) → readJob (now (s .entry)) ≡ good j → now (map .exit) ≡ replayedMap j (readPlan j (now (plan .entry))) (now (map .entry))) ⌝ }
+{
+    let count = tech.grid.vertices();
+    zero_codes(map, count);
+    lay_all_pins(s, tech.grid, nets, from, map);
+    let read = read_nets(s, tech, marks, map, plan, nets, from);
+    let replayed = end_plan(plan, read);
+    finish_map(map, marks, count, replayed);
+    replayed
+}
