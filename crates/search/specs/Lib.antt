@@ -1,0 +1,1 @@
+-- The table of costs to go, as the code holds it.

@@ -1,0 +1,2 @@
+// The search for a cheapest join: the costs to go from every place.
+pub mod places;
