@@ -1,33 +1,28 @@
+-- `search::places::place_of` meets its contract.
+use mathlib.Core.Path.{refl}
+use Rattle.rules.specs.Places.{placeAt}
 use borrow.Author.Needs.{needs}
 use Rattle.search.proofs.places.place_of.Statement.{statement}
 use Rattle.search.proofs.places.place_of.Tie as tie
-use Rattle.search.proofs.places.place_of.Reads as reads
-use Rattle.search.proofs.places.place_of.Lts as lts
-use Rattle.search.proofs.places.segment_at.Reads as segment-at-reads
 
--- src/places.rt:66:22
 add-width : tie.Need-add-width
 add-width c = search needs
 
--- src/places.rt:66:17
 mul-width : tie.Need-mul-width
 mul-width c = search needs
 
--- src/places.rt:68:17
 div-t4 : tie.Need-div-t4
 div-t4 c = search needs
 
--- src/places.rt:69:38
 rem-segment-at : tie.Need-rem-segment-at
 rem-segment-at c = search needs
 
--- src/places.rt:69:18
 segment-at-requires : tie.Need-segment-at-requires
 segment-at-requires c κs = search needs
 
--- src/places.rt:62:1
 returns : tie.Need-returns
-returns c = search needs
+unfolding placeAt
+returns c = rw (c .segment-at .ensures) refl
 
 pub place-of-spec : {M : Type 1} → statement M
 place-of-spec =

@@ -1,77 +1,67 @@
+-- `search::places::segment_code` meets its contract.
+use mathlib.Core.Path.{refl}
+use native.Mathlib.Omega.{arith}
 use borrow.Author.Needs.{needs}
+use Rattle.rules.specs.Places.{segmentCode}
+use Rattle.rules.specs.Structs.{segmentOf}
+use Rattle.search.proofs.Numbers.{running-code, toward-code, toward-small, running-good}
 use Rattle.search.proofs.places.segment_code.Statement.{statement}
 use Rattle.search.proofs.places.segment_code.Tie as tie
-use Rattle.search.proofs.places.segment_code.Reads as reads
-use Rattle.search.proofs.places.segment_code.Lts as lts
-use Rattle.rules.proofs.segment.move_toward.Reads as move-toward-reads
 
--- src/places.rt:17:27
 enum-told : tie.Need-enum-told
 enum-told c = search needs
 
--- src/places.rt:18:26
 enum-known-segment : tie.Need-enum-known-segment
 enum-known-segment c = search needs
 
--- src/places.rt:18:48
 mul-result : tie.Need-mul-result
-mul-result c = search needs
+mul-result c = omega (arith, running-good (c .before .segment .given .1) (c .before .before .before .pre .2), c .before .before .before .pre .1)
 
--- src/places.rt:18:48
 sub-result : tie.Need-sub-result
-sub-result c = search needs
+sub-result c = omega (arith, running-good (c .before .segment .given .1) (c .before .before .before .pre .2))
 
--- src/places.rt:18:65
 move-toward-requires : tie.Need-move-toward-requires
 move-toward-requires c κs = search needs
 
--- src/places.rt:18:48
 add-result : tie.Need-add-result
-add-result c = search needs
+add-result c = omega (arith, running-good (c .before .before .segment .given .1) (c .before .before .before .before .pre .2), c .before .before .before .before .pre .1, toward-small _ (c .move-toward .ensures))
 
--- src/places.rt:19:26
 enum-told-2 : tie.Need-enum-told-2
 enum-told-2 c = search needs
 
--- src/places.rt:19:26
 mul-result-2 : tie.Need-mul-result-2
 mul-result-2 c = search needs
 
--- src/places.rt:19:26
 sub-result-2 : tie.Need-sub-result-2
 sub-result-2 c = search needs
 
--- src/places.rt:20:29
 enum-known-segment-2 : tie.Need-enum-known-segment-2
 enum-known-segment-2 c = search needs
 
--- src/places.rt:20:43
 mul-result-3 : tie.Need-mul-result-3
 mul-result-3 c = search needs
 
--- src/places.rt:20:57
 move-toward-requires-2 : tie.Need-move-toward-requires-2
 move-toward-requires-2 c κs = search needs
 
--- src/places.rt:20:43
 add-result-2 : tie.Need-add-result-2
-add-result-2 c = search needs
+add-result-2 c = omega (arith, c .before .before .before .before .pre .1, toward-small _ (c .move-toward2 .ensures))
 
--- src/places.rt:12:1
 returns : tie.Need-returns
-returns c = search needs
+unfolding segmentOf segmentCode
+returns c = rw (c .enum-told .given .1) refl
 
--- src/places.rt:12:1
 returns-2 : tie.Need-returns-2
-returns-2 c = search needs
+unfolding segmentOf
+returns-2 c = rw (c .before .before .segment .given .1, c .move-toward .ensures) (running-code _ _ _ (running-good (c .before .before .segment .given .1) (c .before .before .before .before .pre .2) .0))
 
--- src/places.rt:12:1
 returns-3 : tie.Need-returns-3
-returns-3 c = search needs
+unfolding segmentOf segmentCode
+returns-3 c = rw (c .enum-told2 .given .1) refl
 
--- src/places.rt:12:1
 returns-4 : tie.Need-returns-4
-returns-4 c = search needs
+unfolding segmentOf
+returns-4 c = rw (c .before .before .segment2 .given .1, c .move-toward2 .ensures) (toward-code _ _)
 
 pub segment-code-spec : {M : Type 1} → statement M
 segment-code-spec =
