@@ -1,3 +1,7 @@
 -- The laws of the search.
---     Numbers     places by number and back
+--     Numbers      places by number and back
+--     Lowering     costs lowered by moves, in any system
+--     Entries      entries of a table, and a store
 pub mod Numbers
+pub mod Lowering
+pub mod Entries

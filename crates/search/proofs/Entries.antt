@@ -1,0 +1,73 @@
+-- Entries of a table, and a store.
+--     cost-entry, entry-cost         an entry is that of its cost, and a cost that of its entry
+--     entry-plus, entry-lesser       a price added to an entry; the lesser of two
+--     table-here, table-other        a store at a place changes its cost alone
+use Prim.Native.Nat.{ℕ, zero, suc, _+_, _≤_, _<_, min}
+use mathlib.Core.Path.{_≡_, refl, ap}
+use mathlib.Core.List.{List}
+use native.Mathlib.Omega.{arith}
+use lib.ListN.{length, getD, set}
+use lib.Seq.{getD-set-same, getD-set-other}
+use Rattle.paths.specs.Distances.{Cost, fin, inf, plus, least}
+use Rattle.rules.specs.Segments.{Place}
+use Rattle.rules.specs.Prices.{Tech}
+use Rattle.rules.specs.Places.{placeCode, entryCost}
+use Rattle.search.specs.Tables.{tableBy, entryOf}
+
+-- an entry is that of its cost
+pub cost-entry : (n : ℕ) → entryOf (entryCost n) ≡ n
+unfolding entryOf entryCost
+cost-entry zero = refl
+cost-entry (suc n) = refl
+
+-- a cost is that of its entry
+pub entry-cost : (c : Cost) → entryCost (entryOf c) ≡ c
+unfolding entryOf entryCost
+entry-cost (fin n) = refl
+entry-cost inf = refl
+
+-- a price and a finite entry
+pub entry-plus : (p e : ℕ) → (e ≡ 0 → ⊥) → entryCost (e + p) ≡ plus p (entryCost e)
+unfolding entryCost
+entry-plus p zero some = absurd (some refl)
+entry-plus p (suc n) some = let sum : suc n + p ≡ suc (p + n) = omega arith in rw sum refl
+
+-- ---- the lesser of two
+
+-- the first where the second is infinite
+pub lesser-left : (a b : ℕ) → b ≡ 0 → entryCost a ≡ least (entryCost a) (entryCost b)
+unfolding entryCost least
+lesser-left zero b e = rw e refl
+lesser-left (suc m) b e = rw e refl
+
+-- the second where the first is infinite
+pub lesser-right : (a b : ℕ) → a ≡ 0 → entryCost b ≡ least (entryCost a) (entryCost b)
+unfolding entryCost least
+lesser-right a b e = rw e refl
+
+-- the second where it is less
+pub lesser-below : (a b : ℕ) → (b ≡ 0 → ⊥) → b < a → entryCost b ≡ least (entryCost a) (entryCost b)
+unfolding entryCost least
+lesser-below a zero some h = absurd (some refl)
+lesser-below zero (suc n) some h = absurd (omega arith)
+lesser-below (suc m) (suc n) some h = ap fin (omega arith)
+
+-- else the first
+pub lesser-not : (a b : ℕ) → (a ≡ 0 → ⊥) → a ≤ b → entryCost a ≡ least (entryCost a) (entryCost b)
+unfolding entryCost least
+lesser-not zero b some h = absurd (some refl)
+lesser-not (suc m) zero some h = absurd (omega arith)
+lesser-not (suc m) (suc n) some h = ap fin (omega arith)
+
+-- ---- a store
+
+module _ (t : Tech) (work : List ℕ) (c x : ℕ) (p : Place) where
+  -- at its place
+  pub table-here : c < length work → placeCode t p ≡ c → tableBy t (set work c x) p ≡ entryCost x
+  unfolding tableBy
+  table-here h e = rw (e, getD-set-same work c x 0 h) refl
+
+  -- at another
+  pub table-other : (placeCode t p ≡ c → ⊥) → tableBy t (set work c x) p ≡ tableBy t work p
+  unfolding tableBy
+  table-other e = rw (getD-set-other work c (placeCode t p) x 0 e) refl
