@@ -1,14 +1,17 @@
 -- Entries of a table, and a store.
 --     cost-entry, entry-cost         an entry is that of its cost, and a cost that of its entry
---     entry-plus, entry-lesser       a price added to an entry; the lesser of two
+--     entry-plus                     a price added to an entry
+--     lesser-left, -right, -below, -not   the lesser of two
+--     least-begun, least-on, least-done   the least of four
 --     table-here, table-other        a store at a place changes its cost alone
 use Prim.Native.Nat.{ℕ, zero, suc, _+_, _≤_, _<_, min}
-use mathlib.Core.Path.{_≡_, refl, ap}
+use mathlib.Core.Path.{_≡_, refl, ap, _∙_}
 use mathlib.Core.List.{List}
+use native.Mathlib.Numerals.{add-one}
 use native.Mathlib.Omega.{arith}
 use lib.ListN.{length, getD, set}
 use lib.Seq.{getD-set-same, getD-set-other}
-use Rattle.paths.specs.Distances.{Cost, fin, inf, plus, least}
+use Rattle.paths.specs.Distances.{Cost, fin, inf, plus, least, leastOf}
 use Rattle.rules.specs.Segments.{Place}
 use Rattle.rules.specs.Prices.{Tech}
 use Rattle.rules.specs.Places.{placeCode, entryCost}
@@ -58,6 +61,28 @@ unfolding entryCost least
 lesser-not zero b some h = absurd (some refl)
 lesser-not (suc m) zero some h = absurd (omega arith)
 lesser-not (suc m) (suc n) some h = ap fin (omega arith)
+
+-- ---- the least of four
+
+-- so far the least of so many
+pub record Least (E : ℕ → Cost) (n entry : ℕ) : Type 0 where
+  pub known : n ≤ 4
+  pub is : entryCost entry ≡ leastOf E n
+
+module _ (E : ℕ → Cost) where
+  -- of none
+  pub least-begun : Least E 0 0
+  unfolding entryCost leastOf
+  least-begun = record { known = omega arith; is = refl }
+
+  -- of one more
+  pub least-on : {n a r : ℕ} (b : ℕ) → n < 4 → Least E n a → entryCost b ≡ E n → entryCost r ≡ least (entryCost a) (entryCost b) → Least E (n + 1) r
+  unfolding leastOf
+  least-on b h so-far next lesser = record { known = omega arith; is = lesser ∙ rw (so-far .is, next, add-one) refl }
+
+  -- of all
+  pub least-done : {n r : ℕ} → 4 ≤ n → Least E n r → entryCost r ≡ leastOf E 4
+  least-done {n} h so-far = let all : n ≡ 4 = omega (arith, so-far .known) in rw (← all) (so-far .is)
 
 -- ---- a store
 

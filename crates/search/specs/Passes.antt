@@ -1,12 +1,13 @@
 -- What a pass over the table does.
+--     turned                     the number whose turn it is, in one order or the other
 --     total, finite, potential   sums over the first entries: how many are finite, and what falls as entries are lowered
 --     Held                       each cost is at least what it would become, and the finite ones are bounded by their number
 --     Still                      each cost is what it would become
 --     Passed                     what a pass does
-use Prim.Native.Nat.{ℕ, zero, suc, _+_, _*_, _^_, _≤_, _<_}
+use Prim.Native.Nat.{ℕ, zero, suc, _+_, _-_, _*_, _^_, _≤_, _<_}
 use mathlib.Core.Path.{_≡_}
 use mathlib.Core.List.{List}
-use mathlib.Core.Bool.{Bool, true, false}
+use mathlib.Core.Bool.{Bool, true, false, cond}
 use lib.ListN.{length, getD}
 use Rattle.paths.specs.Distances.{within}
 use Rattle.rules.specs.Views.{View}
@@ -16,6 +17,10 @@ use Rattle.rules.specs.Joins.{places}
 use Rattle.rules.specs.Places.{GoodPlace}
 use Rattle.metal.specs.Codes.{Beyond}
 use Rattle.search.specs.Tables.{tableBy, lowered, systemBy}
+
+-- of n numbers the one whose turn it is: from the last down, or from the first up
+unfoldable pub turned : (backward : Bool) → (n turn : ℕ) → ℕ
+turned backward n turn = cond backward (n - 1 - turn) turn
 
 -- a sum over the first n entries
 unfoldable pub total : (ℕ → ℕ) → (n : ℕ) → List ℕ → ℕ
