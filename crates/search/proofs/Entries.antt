@@ -1,6 +1,6 @@
 -- Entries of a table, and a store.
 --     cost-entry, entry-cost         an entry is that of its cost, and a cost that of its entry
---     entry-plus                     a price added to an entry
+--     entry-fin, entry-plus          the entry of a finite cost; a price added to an entry
 --     lesser-left, -right, -below, -not   the lesser of two
 --     least-begun, least-on, least-done   the least of four
 --     table-here, table-other        a store at a place changes its cost alone
@@ -12,6 +12,7 @@ use native.Mathlib.Omega.{arith}
 use lib.ListN.{length, getD, set}
 use lib.Seq.{getD-set-same, getD-set-other}
 use Rattle.paths.specs.Distances.{Cost, fin, inf, plus, least, leastOf}
+use Rattle.paths.proofs.Costs.{inf-not-fin}
 use Rattle.rules.specs.Segments.{Place}
 use Rattle.rules.specs.Prices.{Tech}
 use Rattle.rules.specs.Places.{placeCode, entryCost}
@@ -28,6 +29,12 @@ pub entry-cost : (c : Cost) → entryCost (entryOf c) ≡ c
 unfolding entryOf entryCost
 entry-cost (fin n) = refl
 entry-cost inf = refl
+
+-- an entry of a finite cost is one more
+pub entry-fin : (e : ℕ) {n : ℕ} → entryCost e ≡ fin n → e ≡ suc n
+unfolding entryCost
+entry-fin zero is = absurd (inf-not-fin is)
+entry-fin (suc m) is = cc
 
 -- a price and a finite entry
 pub entry-plus : (p e : ℕ) → (e ≡ 0 → ⊥) → entryCost (e + p) ≡ plus p (entryCost e)

@@ -3,7 +3,13 @@
 --     Lowering     costs lowered by moves, in any system
 --     Entries      entries of a table, and a store
 --     Entering     the cost by one move
+--     Relaxed      one place relaxed, in the code's words
+--     Totals       sums over the first entries
+--     Holding      what relaxing a place keeps
 pub mod Numbers
 pub mod Lowering
 pub mod Entries
 pub mod Entering
+pub mod Relaxed
+pub mod Totals
+pub mod Holding

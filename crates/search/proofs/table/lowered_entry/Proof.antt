@@ -1,25 +1,28 @@
-use borrow.Author.Needs.{needs}
+-- `search::table::lowered_entry` meets its contract.
+use mathlib.Core.Path.{sym, _∙_}
+use borrow.Author.Tests.{eq-eqb, ne-eqb}
+use Rattle.rules.specs.Places.{entryCost}
+use Rattle.search.proofs.Lowering.{lowered-goal, lowered-on}
+use Rattle.search.proofs.Entering.{code-asked}
 use Rattle.search.proofs.table.lowered_entry.Statement.{statement}
 use Rattle.search.proofs.table.lowered_entry.Tie as tie
-use Rattle.search.proofs.table.lowered_entry.Reads as reads
-use Rattle.search.proofs.table.lowered_entry.Lts as lts
-use Rattle.search.proofs.table.least_entry.Reads as least-entry-reads
 
--- src/table.rt:83:8
 element-copy-out-if1 : tie.Need-element-copy-out-if1
-element-copy-out-if1 c = search needs
+element-copy-out-if1 c =
+    code-asked (c .before .pre .0) _ (c .before .pre .1) .2
 
--- src/table.rt:84:9
 returns : tie.Need-returns
-returns c = search needs
+unfolding entryCost
+returns c =
+    sym (lowered-goal _ _ _ (eq-eqb _ _ (c .if1 .taken)))
 
--- src/table.rt:86:5
 least-entry-requires : tie.Need-least-entry-requires
-least-entry-requires c κs = search needs
+least-entry-requires c κs =
+    c .before .before .before .pre
 
--- src/table.rt:70:1
 returns-2 : tie.Need-returns-2
-returns-2 c = search needs
+returns-2 c =
+    c .least-entry .ensures ∙ sym (lowered-on _ _ _ (ne-eqb _ _ (c .before .if1 .left)))
 
 pub lowered-entry-spec : {M : Type 1} → statement M
 lowered-entry-spec =
