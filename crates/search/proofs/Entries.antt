@@ -1,5 +1,6 @@
 -- Entries of a table, and a store.
 --     cost-entry, entry-cost         an entry is that of its cost, and a cost that of its entry
+--     lowered-cost                   the cost of a lowered entry
 --     entry-fin, entry-plus          the entry of a finite cost; a price added to an entry
 --     lesser-left, -right, -below, -not   the lesser of two
 --     least-begun, least-on, least-done   the least of four
@@ -11,12 +12,14 @@ use native.Mathlib.Numerals.{add-one}
 use native.Mathlib.Omega.{arith}
 use lib.ListN.{length, getD, set}
 use lib.Seq.{getD-set-same, getD-set-other}
+use Rattle.job.specs.Job.{largestMinLength}
 use Rattle.paths.specs.Distances.{Cost, fin, inf, plus, least, leastOf}
 use Rattle.paths.proofs.Costs.{inf-not-fin}
+use Rattle.rules.specs.Views.{View}
 use Rattle.rules.specs.Segments.{Place}
 use Rattle.rules.specs.Prices.{Tech}
-use Rattle.rules.specs.Places.{placeCode, entryCost}
-use Rattle.search.specs.Tables.{tableBy, entryOf}
+use Rattle.rules.specs.Places.{placeCode, placeAt, entryCost}
+use Rattle.search.specs.Tables.{tableBy, entryOf, lowered, systemBy, loweredEntry}
 
 -- an entry is that of its cost
 pub cost-entry : (n : ℕ) → entryOf (entryCost n) ≡ n
@@ -35,6 +38,13 @@ pub entry-fin : (e : ℕ) {n : ℕ} → entryCost e ≡ fin n → e ≡ suc n
 unfolding entryCost
 entry-fin zero is = absurd (inf-not-fin is)
 entry-fin (suc m) is = cc
+
+-- the cost of a lowered entry
+pub lowered-cost : (t : Tech) (view : View) (spots work : List ℕ) (c : ℕ)
+    → entryCost (loweredEntry t view spots work c)
+    ≡ lowered (systemBy t view spots) (tableBy t work) (placeAt (largestMinLength (t .lines)) c)
+unfolding loweredEntry
+lowered-cost t view spots work c = entry-cost (lowered (systemBy t view spots) (tableBy t work) (placeAt (largestMinLength (t .lines)) c))
 
 -- a price and a finite entry
 pub entry-plus : (p e : ℕ) → (e ≡ 0 → ⊥) → entryCost (e + p) ≡ plus p (entryCost e)

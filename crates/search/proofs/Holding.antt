@@ -31,7 +31,7 @@ use Rattle.search.specs.Tables.{tableBy, entryOf, lowered, systemBy, low
 use Rattle.search.specs.Passes.{one, weight, finite, potential, Held}
 use Rattle.search.proofs.Numbers.{place-good, code-place}
 use Rattle.search.proofs.Lowering.{lowered-goal, lowered-on, lowered-mono}
-use Rattle.search.proofs.Entries.{entry-cost, entry-fin, table-here, table-other}
+use Rattle.search.proofs.Entries.{lowered-cost, entry-fin, table-here, table-other}
 use Rattle.search.proofs.Totals.{finite-store, potential-store, finite-most}
 
 -- a cost is within itself
@@ -95,8 +95,7 @@ module _ {t : Tech} (view : View) (spots : List ℕ) (good : GoodTech t) where
 
       -- the new entry's cost
       new-cost : entryCost new ≡ lowered (systemBy t view spots) (tableBy t work) here
-      unfolding loweredEntry
-      new-cost = entry-cost (lowered (systemBy t view spots) (tableBy t work) here)
+      new-cost = lowered-cost t view spots work c
 
       -- it is within the old one's
       new-falls : within (entryCost new) (entryCost (getD work c 0))

@@ -6,6 +6,7 @@
 --     Relaxed      one place relaxed, in the code's words
 --     Totals       sums over the first entries
 --     Holding      what relaxing a place keeps
+--     Passing      turns of a pass
 pub mod Numbers
 pub mod Lowering
 pub mod Entries
@@ -13,3 +14,4 @@ pub mod Entering
 pub mod Relaxed
 pub mod Totals
 pub mod Holding
+pub mod Passing

@@ -1,48 +1,55 @@
+-- `search::relax::relax_pass` meets its contract: so far so many places are relaxed.
 use borrow.Author.Needs.{needs}
+use Prim.Native.Nat.{_-_}
+use mathlib.Core.Path.{sym, _∙_}
+use mathlib.Core.Logic.{⊎-elim}
+use native.Mathlib.Omega.{arith}
+use Rattle.job.specs.Structs.{gridOf}
+use Rattle.rules.specs.Seen.{viewBy}
+use Rattle.rules.specs.Structs.{techBy}
+use Rattle.search.proofs.Holding.{held-readable}
+use Rattle.search.proofs.Passing.{Passing, passing-begun, passing-below, passing-changed, passing-same, passing-done}
 use Rattle.search.proofs.relax.relax_pass.Statement.{statement}
 use Rattle.search.proofs.relax.relax_pass.Tie as tie
-use Rattle.search.proofs.relax.relax_pass.Reads as reads
-use Rattle.search.proofs.relax.relax_pass.Lts as lts
-use Rattle.search.proofs.relax.relax_place.Reads as relax-place-reads
-use Rattle.search.proofs.relax.turned.Reads as turned-reads
 
 abbrev Inv-loop : tie.InvT-loop
-Inv-loop tech seen spots largest count backward work₀ changed₀ turn₀ work changed turn = ?
+Inv-loop tech seen spots largest count backward work₀ changed₀ turn₀ work changed turn =
+    Passing (techBy tech) (viewBy (gridOf (tech .grid)) seen) spots count backward work₀ work changed turn
 
 abbrev μ-loop : tie.MeasureT-loop
-μ-loop tech seen spots largest count backward work₀ changed₀ turn₀ work changed turn = ?
+μ-loop tech seen spots largest count backward work₀ changed₀ turn₀ work changed turn =
+    count - turn
 
--- src/relax.rt:70:5
 loop-holds : tie.Need-loop-holds Inv-loop μ-loop
-loop-holds c = search needs
+loop-holds c =
+    passing-begun (c .before .pre .1) (c .before .pre .2)
 
--- src/relax.rt:77:13
 turned-requires : tie.Need-turned-requires Inv-loop μ-loop
-turned-requires c κs = search needs
+turned-requires c κs =
+    c .before .loop-test .taken
 
--- src/relax.rt:71:12
 relax-place-requires : tie.Need-relax-place-requires Inv-loop μ-loop
-relax-place-requires c κs = search needs
+relax-place-requires c κs =
+    (c .before .before .before .before .before .pre .0, passing-below (c .before .before .before .before .before .pre .0 .fits .good) (c .before .before .before .loop .inv) (c .before .before .loop-test .taken) (c .turned .ensures), held-readable _ _ (c .before .before .before .before .before .pre .0 .fits .good) (c .before .before .before .loop .inv .held))
 
--- src/relax.rt:70:9
 add-turn : tie.Need-add-turn Inv-loop μ-loop
 add-turn c = search needs
 
--- src/relax.rt:70:5
 loop-less : tie.Need-loop-less Inv-loop μ-loop
-loop-less c = search needs
+loop-less c =
+    omega (arith, c .before .before .before .before .before .before .loop-test .taken)
 
--- src/relax.rt:70:5
 loop-again : tie.Need-loop-again Inv-loop μ-loop
-loop-again c = search needs
+loop-again c =
+    ⊎-elim (λ w. rw (w .1) (passing-changed (c .before .before .before .before .before .before .before .before .before .pre .0 .fits .good) (c .before .before .before .before .before .before .before .loop .inv) (c .before .before .before .before .before .before .loop-test .taken) (c .before .before .before .before .turned .ensures) (c .before .before .before .relax-place .ensures .0) (sym (w .0 .taken) ∙ c .before .before .before .relax-place .ensures .1))) (λ w. rw (w .1) (passing-same (c .before .before .before .before .before .before .before .before .before .pre .0 .fits .good) (c .before .before .before .before .before .before .before .loop .inv) (c .before .before .before .before .before .before .loop-test .taken) (c .before .before .before .before .turned .ensures) (c .before .before .before .relax-place .ensures .0) (sym (w .0 .left) ∙ c .before .before .before .relax-place .ensures .1))) (c .if1 .came)
 
--- src/relax.rt:55:1
 same-length : tie.Need-same-length Inv-loop μ-loop
-same-length c = search needs
+same-length c =
+    c .before .loop .inv .kept .size
 
--- src/relax.rt:55:1
 returns : tie.Need-returns Inv-loop μ-loop
-returns c = search needs
+returns c =
+    passing-done (c .before .before .before .pre .0 .fits .good) (c .before .loop .inv) (c .loop-test .left)
 
 pub relax-pass-spec : {M : Type 1} → statement M
 relax-pass-spec =
