@@ -59,13 +59,12 @@ module _ {tech : TechStruct} {largest : ℕ} (held : Searched tech largest) wher
 
     -- what a place's number is asked for
     pub code-asked : (1 ≤ largest) × (largest ≤ 15) × (place .vertex < 16384) × GoodSegment largest (segmentOf (place .segment))
-    code-asked =
-        (
-          omega (arith, held .is, some-largest (held .fits .good) (on .vertex)),
-          largest-fits,
-          omega (arith, place-there, held .fits .sized .vertices),
-          segment-there,
-        )
+    code-asked = (
+      omega (arith, held .is, some-largest (held .fits .good) (on .vertex)),
+      largest-fits,
+      omega (arith, place-there, held .fits .sized .vertices),
+      segment-there,
+    )
 
     -- a place's number, as the code makes it
     code-made : place .vertex * (2 * (largest + 1)) + segmentCode largest (segmentOf (place .segment)) ≡ placeCode (techBy tech) (placeOf place)
@@ -115,12 +114,11 @@ module _ {tech : TechStruct} {largest : ℕ} (held : Searched tech largest) wher
 
     -- it lies in the slice
     pub code-in : {work : List ℕ} → Readable (techBy tech) work → (code < length work) × (code ≤ 2 ^ 19) × (getD work code 0 < 2 ^ 40)
-    code-in read =
-        (
-          omega (arith, code-there, read .room),
-          omega (arith, code-there, places-small (held .fits .good)),
-          read .small code code-there,
-        )
+    code-in read = (
+      omega (arith, code-there, read .room),
+      omega (arith, code-there, places-small (held .fits .good)),
+      read .small code code-there,
+    )
 
   module _ {place : PlaceStruct} (on : GoodPlace (techBy tech) (placeOf place)) {seen : List ℕ} {number : ℕ} {made : MadeStruct} (l : Led place on seen number made) (work : List ℕ)
       {code : ℕ} (is : code ≡ made .next .vertex * (2 * (largest + 1)) + segmentCode largest (segmentOf (made .next .segment))) where

@@ -7,6 +7,7 @@
 --     Totals       sums over the first entries
 --     Holding      what relaxing a place keeps
 --     Passing      turns of a pass
+--     Settling     passes until one changes nothing
 pub mod Numbers
 pub mod Lowering
 pub mod Entries
@@ -15,3 +16,4 @@ pub mod Relaxed
 pub mod Totals
 pub mod Holding
 pub mod Passing
+pub mod Settling
