@@ -18,7 +18,7 @@ use Rattle.job.specs.Grid.{vertices}
 use Rattle.job.specs.Job.{largestMinLength}
 use Rattle.job.proofs.Tests.{and-holds}
 use Rattle.paths.specs.Distances.{Cost, fin, inf, within, through, isCost, Table, dist}
-use Rattle.paths.specs.Starts.{Choice, best, startCost, Chooses}
+use Rattle.paths.specs.Starts.{Choice, startCost, Chooses}
 use Rattle.paths.proofs.Starts.{best-chooses, best-same}
 use Rattle.paths.proofs.Cheapest.{table-dist, follow-dist}
 use Rattle.rules.specs.Views.{View, member}

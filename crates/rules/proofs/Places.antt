@@ -16,13 +16,13 @@ use Rattle.rules.specs.Segments.{low, high, Segment, fresh, running, pai
 use Rattle.rules.specs.Prices.{Tech}
 use Rattle.rules.specs.Walks.{startAt}
 use Rattle.rules.specs.Joins.{places}
-use Rattle.rules.specs.Places.{segmentCode, placeCode, runningAt, segmentAt, GoodSegment, GoodPlace, GoodTech}
+use Rattle.rules.specs.Places.{segmentCode, codeBy, placeCode, runningAt, segmentAt, GoodSegment, GoodPlace, GoodTech}
 use Rattle.rules.proofs.Techs.{some-largest, largest-small}
 
 -- ---- segments
 
 -- a good segment is that of its number
-pub segment-code : (largest : ℕ) (s : Segment) → 1 ≤ largest → GoodSegment largest s → segmentAt largest (segmentCode largest s) ≡ s
+segment-code : (largest : ℕ) (s : Segment) → 1 ≤ largest → GoodSegment largest s → segmentAt largest (segmentCode largest s) ≡ s
 unfolding segmentAt runningAt segmentCode GoodSegment
 segment-code l fresh some h = refl
 segment-code l (running low n) some h =
@@ -59,12 +59,12 @@ segment-below l (paidToward high) h = omega arith
 
 -- a good place has a number below the number of places
 pub code-below : {t : Tech} {p : Place} → GoodPlace t p → placeCode t p < places t
-unfolding placeCode places
+unfolding placeCode codeBy places
 code-below {t} {p} h = rw mul-assoc (digits-lt (h .vertex) (segment-below (largestMinLength (t .lines)) (p .segment) (h .segment)))
 
 -- two good places have two numbers
 pub code-apart : {t : Tech} {p q : Place} → GoodTech t → GoodPlace t p → GoodPlace t q → placeCode t p ≡ placeCode t q → p ≡ q
-unfolding placeCode
+unfolding placeCode codeBy
 code-apart {t} {p} {q} good hp hq e =
     let l = largestMinLength (t .lines) in
     let some = some-largest good (hp .vertex) in

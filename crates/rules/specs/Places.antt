@@ -1,9 +1,9 @@
 -- The places of a search by number, and what a job's layers must satisfy.
---     segmentCode, placeCode     a segment's number, and a place's: by vertex, then segment
---     segmentAt, placeAt         the segment and the place of a number
---     entryCost                  an entry of a table of costs
---     GoodSegment, GoodPlace     a vertex of the grid, and a running length from 1 to below the largest M
---     GoodTech                   what a good job says of its layers
+--     segmentCode, codeBy, placeCode   a segment's number, and a place's: by vertex, then segment
+--     segmentAt, placeAt               the segment and the place of a number
+--     entryCost                        an entry of a table of costs
+--     GoodSegment, GoodPlace           a vertex of the grid, and a running length from 1 to below the largest M
+--     GoodTech                         what a good job says of its layers
 use Prim.Native.Nat.{ℕ, zero, suc, _+_, _-_, _*_, _/_, _%_, _^_, _≤_, _<_}
 use mathlib.Core.Path.{_≡_}
 use mathlib.Core.Bool.{cond}
@@ -26,10 +26,11 @@ segmentCode largest (paidToward low) = 2 * largest
 segmentCode largest (paidToward high) = 2 * largest + 1
 
 -- 2(M + 1) numbers for each vertex, with M the largest
+unfoldable pub codeBy : (largest : ℕ) → Place → ℕ
+codeBy largest p = p .vertex * (2 * (largest + 1)) + segmentCode largest (p .segment)
+
 unfoldable pub placeCode : Tech → Place → ℕ
-placeCode t p =
-    let largest = largestMinLength (t .lines) in
-    p .vertex * (2 * (largest + 1)) + segmentCode largest (p .segment)
+placeCode t p = codeBy (largestMinLength (t .lines)) p
 
 -- a running segment: odd numbers go low, even ones high
 unfoldable pub runningAt : (code : ℕ) → Segment

@@ -1,21 +1,22 @@
 -- The cost by one move, in the code's words.
---     step-asked, code-asked           what the step and the number of a place are asked for
---     Led, led                         what a legal move leads to
---     entry-stopped, -none, -some      its cost: none where the move is not legal or the next place has none, else the price more
-use Prim.Native.Nat.{ℕ, _+_, _*_, _≤_, _<_, _^_}
-use mathlib.Core.Path.{_≡_, refl, sym, ap, _∙_}
+--     largest-fits                        the largest M is at most 15
+--     step-asked, entry-asked             what the step and the entry of a place are asked for
+--     entry-small, entry-told             what the entry of a place tells
+--     Led, led                            what a legal move leads to
+--     entry-stopped, -none, -some         its cost: none where the move is not legal or the next place has none, else the price more
+use Prim.Native.Nat.{ℕ, _+_, _≤_, _<_, _^_}
+use mathlib.Core.Path.{_≡_, refl}
 use mathlib.Core.List.{List}
 use native.Mathlib.Omega.{arith}
 use lib.ListN.{length, getD}
 use Rattle.job.specs.Grid.{vertices}
 use Rattle.job.specs.Structs.{gridOf}
-use Rattle.paths.specs.Systems.{blocked, to}
+use Rattle.paths.specs.Systems.{to}
 use Rattle.paths.specs.Distances.{through}
 use Rattle.rules.specs.Views.{View}
 use Rattle.rules.specs.Steps.{Stepped, step, priced}
 use Rattle.rules.specs.Seen.{viewBy}
-use Rattle.rules.specs.Joins.{places}
-use Rattle.rules.specs.Places.{segmentCode, placeCode, entryCost, GoodSegment, GoodPlace}
+use Rattle.rules.specs.Places.{codeBy, placeCode, entryCost, GoodSegment, GoodPlace}
 use Rattle.rules.specs.Structs.{segmentOf, Short, TechFits, techBy, placeOf, madeBy, steppedBy, IsStepped}
 use Rattle.rules.specs.declared.price.Tech.{Tech as TechStruct}
 use Rattle.rules.specs.declared.segment.Segment.{Segment as SegmentEnum}
@@ -25,7 +26,8 @@ use Rattle.rules.specs.declared.step.Made.{Made as MadeStruct}
 use Rattle.rules.specs.declared.step.Stepped.{Stepped as SteppedEnum}
 use Rattle.rules.specs.declared.step.Stepped.the-variants.{Illegal, Legal}
 use Rattle.rules.proofs.Techs.{some-largest, largest-small}
-use Rattle.rules.proofs.Places.{code-below, places-small}
+use Rattle.rules.proofs.Held.{in-array}
+use Rattle.rules.proofs.Places.{code-below}
 use Rattle.rules.proofs.Moves.{step-keeps, step-limits}
 use Rattle.search.specs.Tables.{tableBy, Searched, Readable}
 use Rattle.search.proofs.Entries.{entry-plus}
@@ -57,19 +59,32 @@ module _ {tech : TechStruct} {largest : ℕ} (held : Searched tech largest) wher
     pub step-asked : (TechFits tech) × (place .vertex < vertices (gridOf (tech .grid))) × Short (place .segment)
     step-asked = (held .fits, place-there, short-good (place .segment) largest-fits segment-there)
 
-    -- what a place's number is asked for
-    pub code-asked : (1 ≤ largest) × (largest ≤ 15) × (place .vertex < 16384) × GoodSegment largest (segmentOf (place .segment))
-    code-asked = (
-      omega (arith, held .is, some-largest (held .fits .good) (on .vertex)),
-      largest-fits,
-      omega (arith, place-there, held .fits .sized .vertices),
-      segment-there,
-    )
-
-    -- a place's number, as the code makes it
-    code-made : place .vertex * (2 * (largest + 1)) + segmentCode largest (segmentOf (place .segment)) ≡ placeCode (techBy tech) (placeOf place)
+    -- its number, as the code makes it
+    code-made : codeBy largest (placeOf place) ≡ placeCode (techBy tech) (placeOf place)
     unfolding placeCode
     code-made = rw (held .is) refl
+
+    module _ {work : List ℕ} (read : Readable (techBy tech) work) where
+      -- what its entry is asked for
+      pub entry-asked : (1 ≤ largest) × (largest ≤ 15) × (place .vertex < 16384) × GoodSegment largest (segmentOf (place .segment))
+          × (codeBy largest (placeOf place) < length work)
+      entry-asked = (
+        omega (arith, held .is, some-largest (held .fits .good) (on .vertex)),
+        largest-fits,
+        in-array (held .fits) place-there,
+        segment-there,
+        omega (arith, code-made, code-below on, read .room),
+      )
+
+      -- its entry is small
+      pub entry-small : {entry : ℕ} → entry ≡ getD work (codeBy largest (placeOf place)) 0 → entry < 2 ^ 40
+      entry-small is = rw (is, code-made) (read .small (placeCode (techBy tech) (placeOf place)) (code-below on))
+
+    -- its entry is that of its cost
+    pub entry-told : (work : List ℕ) {entry : ℕ} → entry ≡ getD work (codeBy largest (placeOf place)) 0
+        → tableBy (techBy tech) work (placeOf place) ≡ entryCost entry
+    unfolding tableBy
+    entry-told work is = rw (is, code-made) refl
 
     module _ (seen : List ℕ) (number : ℕ) where
       -- what the net at hand sees, and the move
@@ -101,35 +116,16 @@ module _ {tech : TechStruct} {largest : ℕ} (held : Searched tech largest) wher
       unfolding steppedBy priced entryCost
       entry-stopped work stepped is = rw (← stepped .same, is) refl
 
-  module _ (place : PlaceStruct) (on : GoodPlace (techBy tech) (placeOf place)) {code : ℕ}
-      (is : code ≡ place .vertex * (2 * (largest + 1)) + segmentCode largest (segmentOf (place .segment))) where
-    -- the number of a good place is below the number of places
-    pub code-there : code < places (techBy tech)
-    code-there = rw (is, code-made place on) (code-below on)
-
-    -- and its cost is its entry's
-    pub code-cost : (work : List ℕ) → tableBy (techBy tech) work (placeOf place) ≡ entryCost (getD work code 0)
-    unfolding tableBy
-    code-cost work = rw (is, code-made place on) refl
-
-    -- it lies in the slice
-    pub code-in : {work : List ℕ} → Readable (techBy tech) work → (code < length work) × (code ≤ 2 ^ 19) × (getD work code 0 < 2 ^ 40)
-    code-in read = (
-      omega (arith, code-there, read .room),
-      omega (arith, code-there, places-small (held .fits .good)),
-      read .small code code-there,
-    )
-
-  module _ {place : PlaceStruct} (on : GoodPlace (techBy tech) (placeOf place)) {seen : List ℕ} {number : ℕ} {made : MadeStruct} (l : Led place on seen number made) (work : List ℕ)
-      {code : ℕ} (is : code ≡ made .next .vertex * (2 * (largest + 1)) + segmentCode largest (segmentOf (made .next .segment))) where
+  module _ {place : PlaceStruct} (on : GoodPlace (techBy tech) (placeOf place)) {seen : List ℕ} {number : ℕ} {made : MadeStruct}
+      (l : Led place on seen number made) (work : List ℕ) {entry : ℕ} (is : entry ≡ getD work (codeBy largest (placeOf (made .next))) 0) where
     -- a move to a place that has no cost has none
-    pub entry-none : getD work code 0 ≡ 0
+    pub entry-none : entry ≡ 0
         → entryCost 0 ≡ through (tableBy (techBy tech) work) (priced (step (techBy tech) (viewBy (gridOf (tech .grid)) seen) (placeOf place) number))
     unfolding entryCost
-    entry-none e = rw (l .leads, code-cost (made .next) (l .good) is work, e) refl
+    entry-none e = rw (l .leads, entry-told (made .next) (l .good) work is, e) refl
 
     -- else it costs the price more
-    pub entry-some : (getD work code 0 ≡ 0 → ⊥)
-        → entryCost (getD work code 0 + (made .enter + made .over))
+    pub entry-some : (entry ≡ 0 → ⊥)
+        → entryCost (entry + (made .enter + made .over))
         ≡ through (tableBy (techBy tech) work) (priced (step (techBy tech) (viewBy (gridOf (tech .grid)) seen) (placeOf place) number))
-    entry-some some = rw (l .leads, code-cost (made .next) (l .good) is work) (entry-plus (made .enter + made .over) (getD work code 0) some)
+    entry-some some = rw (l .leads, entry-told (made .next) (l .good) work is) (entry-plus (made .enter + made .over) entry some)

@@ -5,12 +5,12 @@
 --     lesser-left, -right, -below, -not   the lesser of two
 --     least-begun, least-on, least-done   the least of four
 --     table-here, table-other        a store at a place changes its cost alone
-use Prim.Native.Nat.{ℕ, zero, suc, _+_, _≤_, _<_, min}
+use Prim.Native.Nat.{ℕ, zero, suc, _+_, _≤_, _<_}
 use mathlib.Core.Path.{_≡_, refl, ap, _∙_}
 use mathlib.Core.List.{List}
 use native.Mathlib.Numerals.{add-one}
 use native.Mathlib.Omega.{arith}
-use lib.ListN.{length, getD, set}
+use lib.ListN.{length, set}
 use lib.Seq.{getD-set-same, getD-set-other}
 use Rattle.job.specs.Job.{largestMinLength}
 use Rattle.paths.specs.Distances.{Cost, fin, inf, plus, least, leastOf}

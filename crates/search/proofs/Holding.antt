@@ -14,8 +14,7 @@ use native.Mathlib.Nat.{le-trans, le-refl, lt-of-le-of-lt, mul-le-mul}
 use lib.ListN.{length, getD, set, length-set}
 use lib.Seq.{getD-set-same, getD-set-other}
 use Rattle.job.specs.Job.{largestMinLength}
-use Rattle.paths.specs.Systems.{System}
-use Rattle.paths.specs.Distances.{Cost, fin, inf, within, leastOf, through}
+use Rattle.paths.specs.Distances.{Cost, fin, inf, within, through}
 use Rattle.paths.proofs.Costs.{within-trans, within-inf, through-fin, leastOf-one}
 use Rattle.rules.specs.Views.{View}
 use Rattle.rules.specs.Segments.{Place}

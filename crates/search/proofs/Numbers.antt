@@ -1,10 +1,10 @@
 -- Places by number and back.
---     running-code, toward-code           a segment's number by its direction
---     running-good, vertex-fits           the numbers fit a word
---     at-fresh, at-running, at-paid, at-low, at-high     the segment of a number, by the number
---     segment-good, code-segment          every number below 2(M + 1) is that of its segment, which is good
---     place-good, code-place, place-code  every number below the number of places is that of its place, which is good; a good place is that
---                                         of its number
+--     running-code, toward-code              a segment's number by its direction
+--     toward-small, running-good, vertex-fits   the numbers fit a word
+--     at-fresh, at-running, at-paid, at-low, at-high   the segment of a number, by the number
+--     numbered                               every number below 2(M + 1) is that of its segment, which is good
+--     place-good, code-place                 every number below the number of places is that of its place, which is good
+--     place-code                             a good place is that of its number
 use Prim.Native.Nat.{ℕ, _+_, _-_, _*_, _/_, _%_, _≤_, _<_}
 use mathlib.Core.Path.{_≡_, refl, ap, _∙_}
 use mathlib.Core.Bool.{Bool, true, false, cond}
@@ -18,11 +18,12 @@ use Rattle.rules.specs.Segments.{Direction, low, high, Segment, fresh, running,
 use Rattle.rules.specs.Overheads.{toward}
 use Rattle.rules.specs.Prices.{Tech}
 use Rattle.rules.specs.Joins.{places}
-use Rattle.rules.specs.Places.{segmentCode, placeCode, runningAt, segmentAt, placeAt, GoodSegment, GoodPlace, GoodTech}
-use Rattle.rules.specs.Structs.{segmentOf, placeOf}
+use Rattle.rules.specs.Places.{segmentCode, codeBy, placeCode, runningAt, segmentAt, placeAt, GoodSegment, GoodPlace, GoodTech}
+use Rattle.rules.specs.Structs.{directionOf, segmentOf}
 use Rattle.rules.specs.declared.segment.Direction.{Direction as DirectionEnum}
 use Rattle.rules.specs.declared.segment.Segment.{Segment as SegmentEnum}
 use Rattle.rules.specs.declared.segment.Segment.the-variants.{Running}
+use Rattle.rules.proofs.Owed.{toward-below}
 use Rattle.rules.proofs.Techs.{some-largest}
 use Rattle.rules.proofs.Places.{code-below, code-apart}
 
@@ -41,10 +42,8 @@ toward-code l low = omega arith
 toward-code l high = refl
 
 -- a direction's own number is 0 or 1
-pub toward-small : (d : Direction) {r : ℕ} → r ≡ toward d → r < 2
-unfolding toward
-toward-small low e = omega arith
-toward-small high e = omega arith
+pub toward-small : (d : DirectionEnum) {r : ℕ} → r ≡ toward (directionOf d) → r < 2
+toward-small d e = omega (arith, e, toward-below d)
 
 -- the length of a good segment that runs
 pub running-good : {largest : ℕ} {s : SegmentEnum} {d : DirectionEnum} {n : ℕ} → s ≡ Running d n → GoodSegment largest (segmentOf s)
@@ -151,7 +150,7 @@ module _ {t : Tech} (good : GoodTech t) where
 
     -- and has that number
     pub code-place : placeCode t (placeAt (largestMinLength (t .lines)) c) ≡ c
-    unfolding placeCode placeAt
+    unfolding placeCode codeBy placeAt
     code-place = ap (λ (x : ℕ). c / width * width + x) (segment-here .code) ∙ div-add-mod' c width
 
   -- a good place is that of its number

@@ -1,7 +1,7 @@
 -- Turns of a pass.
 --     turned-below, turned-back     in either order each number has its turn
 --     Passing, passing-begun, -changed, -same, -done     so far so many places are relaxed
-use Prim.Native.Nat.{ℕ, suc, _+_, _≤_, _<_}
+use Prim.Native.Nat.{ℕ, _+_, _≤_, _<_}
 use mathlib.Core.Path.{_≡_, refl, sym, ap, _∙_}
 use mathlib.Core.List.{List}
 use mathlib.Core.Bool.{Bool, true, false, not, true≢false}
@@ -12,12 +12,11 @@ use lib.ListN.{getD, set}
 use lib.Seq.{set-getD}
 use lib.Dec.{eqb}
 use borrow.Author.Tests.{eqb-true, eqb-false, not-true, not-false}
-use Rattle.job.specs.Job.{largestMinLength}
 use Rattle.rules.specs.Views.{View}
 use Rattle.rules.specs.Segments.{Place}
 use Rattle.rules.specs.Prices.{Tech}
 use Rattle.rules.specs.Joins.{places}
-use Rattle.rules.specs.Places.{placeCode, placeAt, entryCost, GoodPlace, GoodTech}
+use Rattle.rules.specs.Places.{placeCode, entryCost, GoodTech}
 use Rattle.rules.proofs.Places.{code-below}
 use Rattle.metal.specs.Codes.{Beyond}
 use Rattle.metal.proofs.Slices.{beyond-refl, beyond-trans, beyond-store}
@@ -128,4 +127,4 @@ module _ {t : Tech} {view : View} {spots : List ℕ} {count : ℕ} {backward : B
 
     -- all are
     pub passing-done : count ≤ turn → Passed t view spots found work changed
-    passing-done h = record { held = so-far .held; kept = so-far .kept; same = passing-still h; less = so-far .less }
+    passing-done h = record { held = so-far .held; kept = so-far .kept; still = passing-still h; less = so-far .less }

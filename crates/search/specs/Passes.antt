@@ -61,5 +61,5 @@ module _ (t : Tech) (view : View) (spots : List ℕ) where
   pub record Passed (found work : List ℕ) (changed : Bool) : Type 0 where
     pub held : Held work
     pub kept : Beyond (places t) work found
-    pub same : changed ≡ false → Still work
+    pub still : changed ≡ false → Still work
     pub less : changed ≡ true → potential (places t) work < potential (places t) found

@@ -1,8 +1,8 @@
 // A place by its number: by vertex, then segment.
 ghost use mathlib.Core.Path.{_≡_};
-ghost use Prim.Native.Nat.{_+_, _*_, _≤_, _<_, _^_};
-ghost use Rattle.rules.specs.Places.{segmentCode, runningAt, segmentAt, placeAt, GoodSegment};
-ghost use Rattle.rules.specs.Structs.{directionOf, segmentOf, placeOf};
+ghost use Prim.Native.Nat.{_≤_, _<_, _^_};
+ghost use Rattle.rules.specs.Places.{segmentCode, codeBy, runningAt, segmentAt, placeAt, GoodSegment};
+ghost use Rattle.rules.specs.Structs.{segmentOf, placeOf};
 use rules::segment::Direction;
 use rules::segment::Segment;
 use rules::segment::move_toward;
@@ -23,7 +23,7 @@ fn segment_code(largest: usize, segment: Segment) -> usize
 
 pub fn code_of(largest: usize, place: Place) -> usize
     requires { ⌜ (1 ≤ largest) × (largest ≤ 15) × (place .vertex < 16384) × GoodSegment largest (segmentOf (place .segment)) ⌝ }
-    ensures { λ r. ⌜ r ≡ place .vertex * (2 * (largest + 1)) + segmentCode largest (segmentOf (place .segment)) ⌝ }
+    ensures { λ r. ⌜ r ≡ codeBy largest (placeOf place) ⌝ }
 {
     let segment = place.segment;
     place.vertex * (2 * (largest + 1)) + segment_code(largest, segment)

@@ -1,12 +1,13 @@
 // Costs to go as entries of a table: 0 is infinite, and n + 1 is the cost n.
 ghost use mathlib.Core.Path.{_≡_};
-ghost use Prim.Native.Nat.{_<_};
+ghost use Prim.Native.Nat.{_≤_, _<_};
+ghost use lib.ListN.{length, getD};
 ghost use Rattle.job.specs.Structs.{gridOf};
 ghost use Rattle.paths.specs.Distances.{least, leastOf, through};
 ghost use Rattle.rules.specs.Seen.{viewBy};
 ghost use Rattle.rules.specs.Steps.{step, priced};
-ghost use Rattle.rules.specs.Places.{entryCost, GoodPlace};
-ghost use Rattle.rules.specs.Structs.{techBy, placeOf};
+ghost use Rattle.rules.specs.Places.{codeBy, entryCost, GoodSegment, GoodPlace};
+ghost use Rattle.rules.specs.Structs.{segmentOf, techBy, placeOf};
 ghost use Rattle.search.specs.Tables.{tableBy, lowered, systemBy, Searched, Readable};
 use crate::places::code_of;
 use rules::price::Tech;
@@ -28,6 +29,16 @@ fn lesser(a: u64, b: u64) -> u64
     if b < a { b } else { a }
 }
 
+// The entry of a place.
+pub fn entry_of(largest: usize, work: &[u64], place: Place) -> u64
+    requires { ⌜ (1 ≤ largest) × (largest ≤ 15) × (place .vertex < 16384) × (GoodSegment largest (segmentOf (place .segment)))
+        × (codeBy largest (placeOf place) < length (now work)) ⌝ }
+    ensures { λ r. ⌜ r ≡ getD (now (work .entry)) (codeBy largest (placeOf place)) 0 ⌝ }
+{
+    let code = code_of(largest, place);
+    work[code]
+}
+
 // The cost by a move: its price and the cost of the place that it leads to.
 fn entry_by(
     tech: Tech,
@@ -45,8 +56,7 @@ fn entry_by(
         return 0;
     };
     let next = made.next;
-    let code = code_of(largest, next);
-    let entry = work[code];
+    let entry = entry_of(largest, work, next);
     if entry == 0 {
         return 0;
     }

@@ -1,8 +1,10 @@
 -- `search::places::code_of` meets its contract.
+use borrow.Author.Needs.{needs}
+use mathlib.Core.Path.{refl}
 use native.Mathlib.Omega.{arith}
+use Rattle.rules.specs.Places.{codeBy}
 use Rattle.rules.proofs.Places.{segment-below}
 use Rattle.search.proofs.Numbers.{vertex-fits}
-use borrow.Author.Needs.{needs}
 use Rattle.search.proofs.places.code_of.Statement.{statement}
 use Rattle.search.proofs.places.code_of.Tie as tie
 
@@ -22,7 +24,9 @@ add-result-2 : tie.Need-add-result-2
 add-result-2 c = omega (arith, vertex-fits (c .before .before .pre .2) (c .before .before .pre .1), c .segment-code .ensures, segment-below _ _ (c .before .before .pre .3))
 
 returns : tie.Need-returns
-returns c = search needs
+unfolding codeBy
+returns c =
+    rw (c .segment-code .ensures) refl
 
 pub code-of-spec : {M : Type 1} → statement M
 code-of-spec =

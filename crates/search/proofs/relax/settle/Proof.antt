@@ -58,7 +58,7 @@ same-length c =
 returns : tie.Need-returns Inv-loop μ-loop
 unfolding techBy
 returns c =
-    (settling-on (c .before .before .before .before .before .loop .inv) (c .before .before .before .relax-pass .ensures) .kept, settled-table _ _ _ _ (c .before .before .before .relax-pass .ensures .same (c .if1 .left)))
+    (settling-on (c .before .before .before .before .before .loop .inv) (c .before .before .before .relax-pass .ensures) .kept, settled-table _ _ _ _ (c .before .before .before .relax-pass .ensures .still (c .if1 .left)))
 
 pub settle-spec : {M : Type 1} → statement M
 settle-spec =

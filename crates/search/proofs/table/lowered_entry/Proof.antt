@@ -2,14 +2,16 @@
 use mathlib.Core.Path.{sym, _∙_}
 use borrow.Author.Tests.{eq-eqb, ne-eqb}
 use Rattle.rules.specs.Places.{entryCost}
+use Rattle.rules.specs.Structs.{techBy}
+use Rattle.rules.proofs.Held.{in-array}
 use Rattle.search.proofs.Lowering.{lowered-goal, lowered-on}
-use Rattle.search.proofs.Entering.{code-asked}
 use Rattle.search.proofs.table.lowered_entry.Statement.{statement}
 use Rattle.search.proofs.table.lowered_entry.Tie as tie
 
 element-copy-out-if1 : tie.Need-element-copy-out-if1
+unfolding techBy
 element-copy-out-if1 c =
-    code-asked (c .before .pre .0) _ (c .before .pre .1) .2
+    in-array (c .before .pre .0 .fits) (c .before .pre .1 .vertex)
 
 returns : tie.Need-returns
 unfolding entryCost
