@@ -61,13 +61,17 @@ entry-less (suc m) (suc n) before after falls differ small sum = by (ℕ-discret
     by (no e) = omega arith
 
 module _ {t : Tech} (view : View) (spots : List ℕ) (good : GoodTech t) where
+  -- what the cost of a place becomes
+  abbrev becomes : List ℕ → Place → Cost
+  becomes work p = lowered (systemBy t view spots) (tableBy t work) p
+
   -- where every cost is infinite, the table is held
   pub bare-held : {work : List ℕ} → places t ≤ length work → Bare (places t) work → Held t view spots work
   unfolding Bare tableBy entryCost
   bare-held {work} room bare =
       record {
         room = room;
-        falling = λ p h. rw (bare (placeCode t p) (code-below h)) (within-inf (lowered (systemBy t view spots) (tableBy t work) p));
+        falling = λ p h. rw (bare (placeCode t p) (code-below h)) (within-inf (becomes work p));
         bounded = λ c h. rw (bare c h) (omega arith);
       }
 
@@ -93,7 +97,7 @@ module _ {t : Tech} (view : View) (spots : List ℕ) (good : GoodTech t) where
       there = omega (arith, on, held .room)
 
       -- the new entry's cost
-      new-cost : entryCost new ≡ lowered (systemBy t view spots) (tableBy t work) here
+      new-cost : entryCost new ≡ becomes work here
       new-cost = lowered-cost t view spots work c
 
       -- it is within the old one's
@@ -101,47 +105,44 @@ module _ {t : Tech} (view : View) (spots : List ℕ) (good : GoodTech t) where
       unfolding tableBy
       new-falls = rw (← new-cost, code-place good on) at (held .falling here (place-good good on))
 
-      -- after the store a good place has the cost that it would become, or the one that it had
-      stored : (p : Place) → GoodPlace t p
-          → (tableBy t (set work c new) p ≡ lowered (systemBy t view spots) (tableBy t work) p) ⊎ (tableBy t (set work c new) p ≡ tableBy t work p)
+      -- after the store a place has the cost that it would become, or the one that it had
+      abbrev Stored : Place → Type 0
+      Stored p = (tableBy t (set work c new) p ≡ becomes work p) ⊎ (tableBy t (set work c new) p ≡ tableBy t work p)
+
+      -- a good one does
+      stored : (p : Place) → GoodPlace t p → Stored p
       stored p h = by (ℕ-discrete (placeCode t p) c)
         where
-          by : Dec (placeCode t p ≡ c)
-              → (tableBy t (set work c new) p ≡ lowered (systemBy t view spots) (tableBy t work) p) ⊎ (tableBy t (set work c new) p ≡ tableBy t work p)
+          by : Dec (placeCode t p ≡ c) → Stored p
           by (yes e) =
               let same : here ≡ p = code-apart good (place-good good on) h (code-place good on ∙ sym e) in
-              inl (table-here t work c new p there e ∙ new-cost ∙ ap (λ (q : Place). lowered (systemBy t view spots) (tableBy t work) q) same)
+              inl (table-here t work c new p there e ∙ new-cost ∙ ap (λ (q : Place). becomes work q) same)
           by (no e) = inr (table-other t work c new p e)
 
       -- which is lower
       stored-lower : (p : Place) → GoodPlace t p → within (tableBy t (set work c new) p) (tableBy t work p)
       stored-lower p h = by (stored p h)
         where
-          by : (tableBy t (set work c new) p ≡ lowered (systemBy t view spots) (tableBy t work) p) ⊎ (tableBy t (set work c new) p ≡ tableBy t work p)
-              → within (tableBy t (set work c new) p) (tableBy t work p)
+          by : Stored p → within (tableBy t (set work c new) p) (tableBy t work p)
           by (inl e) = rw e (held .falling p h)
           by (inr e) = rw e (within-refl (tableBy t work p))
 
       -- and each cost is still at least what it would become
-      stored-falling : (p : Place) → GoodPlace t p
-          → within (lowered (systemBy t view spots) (tableBy t (set work c new)) p) (tableBy t (set work c new) p)
+      stored-falling : (p : Place) → GoodPlace t p → within (becomes (set work c new) p) (tableBy t (set work c new) p)
       stored-falling p h = by (stored p h)
         where
-          lower : within (lowered (systemBy t view spots) (tableBy t (set work c new)) p) (lowered (systemBy t view spots) (tableBy t work) p)
+          lower : within (becomes (set work c new) p) (becomes work p)
           lower =
-              lowered-mono (systemBy t view spots) (λ q r m cost fine legal. step-keeps view q m good fine (legal .leads)) (tableBy t (set work c new)) (tableBy t work)
-              stored-lower p h
+              lowered-mono (systemBy t view spots) (λ q r m cost fine legal. step-keeps view q m good fine (legal .leads))
+              (tableBy t (set work c new)) (tableBy t work) stored-lower p h
 
-          by : (tableBy t (set work c new) p ≡ lowered (systemBy t view spots) (tableBy t work) p) ⊎ (tableBy t (set work c new) p ≡ tableBy t work p)
-              → within (lowered (systemBy t view spots) (tableBy t (set work c new)) p) (tableBy t (set work c new) p)
+          by : Stored p → within (becomes (set work c new) p) (tableBy t (set work c new) p)
           by (inl e) = rw e lower
           by (inr e) =
-              rw e
-              (within-trans (lowered (systemBy t view spots) (tableBy t (set work c new)) p) (lowered (systemBy t view spots) (tableBy t work) p) (tableBy t work p) lower
-              (held .falling p h))
+              rw e (within-trans (becomes (set work c new) p) (becomes work p) (tableBy t work p) lower (held .falling p h))
 
       -- a move more than a finite entry
-      lowered-bounded : (n : ℕ) → lowered (systemBy t view spots) (tableBy t work) here ≡ fin n → suc n ≤ 197625 + 197625 * finite (places t) work
+      lowered-bounded : (n : ℕ) → becomes work here ≡ fin n → suc n ≤ 197625 + 197625 * finite (places t) work
       unfolding tableBy
       lowered-bounded n e = by (systemBy t view spots .goal here) refl
         where
@@ -159,9 +160,9 @@ module _ {t : Tech} (view : View) (spots : List ℕ) (good : GoodTech t) where
       -- so the new entry is at most that
       new-bounded : new ≤ 197625 + 197625 * finite (places t) work
       unfolding loweredEntry entryOf
-      new-bounded = by (lowered (systemBy t view spots) (tableBy t work) here) refl
+      new-bounded = by (becomes work here) refl
         where
-          by : (x : Cost) → lowered (systemBy t view spots) (tableBy t work) here ≡ x → entryOf x ≤ 197625 + 197625 * finite (places t) work
+          by : (x : Cost) → becomes work here ≡ x → entryOf x ≤ 197625 + 197625 * finite (places t) work
           by inf e = omega arith
           by (fin n) e = lowered-bounded n e
 
