@@ -87,6 +87,7 @@ fn relax_pass(
 pub fn settle(tech: Tech, seen: &[u8; 16384], spots: &[u8; 16384], largest: usize, work: &mut [u64])
     requires { ⌜ (Searched tech largest) × (places (techBy tech) ≤ length (now work)) × (Bare (places (techBy tech)) (now work)) ⌝ }
     ensures kept { λ _. ⌜ Beyond (places (techBy tech)) (now (work .exit)) (now (work .entry)) ⌝ }
+    ensures small { λ _. ⌜ Readable (techBy tech) (now (work .exit)) ⌝ }
     ensures table { λ _. ⌜ ((tree unjoined : List ℕ) → Spots (gridOf (tech .grid)) tree unjoined (now (spots .entry))
         → ((v : ℕ) → member v tree ≡ true → member v unjoined ≡ false)
         → Table (system (techBy tech) (viewBy (gridOf (tech .grid)) (now (seen .entry))) unjoined) (GoodPlace (techBy tech))

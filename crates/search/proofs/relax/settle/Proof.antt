@@ -7,6 +7,7 @@ use Rattle.rules.specs.Structs.{techBy}
 use Rattle.rules.proofs.Places.{places-small}
 use Rattle.search.specs.Passes.{potential}
 use Rattle.search.proofs.Entering.{largest-fits}
+use Rattle.search.proofs.Holding.{held-readable}
 use Rattle.search.proofs.Settling.{count-is, Settling, settling-begun, settling-on, settled-table}
 use Rattle.search.proofs.relax.settle.Statement.{statement}
 use Rattle.search.proofs.relax.settle.Tie as tie
@@ -58,7 +59,10 @@ same-length c =
 returns : tie.Need-returns Inv-loop μ-loop
 unfolding techBy
 returns c =
-    (settling-on (c .before .before .before .before .before .loop .inv) (c .before .before .before .relax-pass .ensures) .kept, settled-table _ _ _ _ (c .before .before .before .relax-pass .ensures .still (c .if1 .left)))
+    let pass = c .before .before .before .relax-pass .ensures in (
+      settling-on (c .before .before .before .before .before .loop .inv) pass .kept,
+      (held-readable _ _ (c .before .before .before .before .before .before .before .before .pre .0 .fits .good) (pass .held), settled-table _ _ _ _ (pass .still (c .if1 .left))),
+    )
 
 pub settle-spec : {M : Type 1} → statement M
 settle-spec =
