@@ -23,8 +23,8 @@ use Rattle.rules.specs.Steps.{leaving, stepping, bySegment, ifPriced, into, ste
 use Rattle.rules.specs.Walks.{startAt, nothingYet, withMade, after, goOn, walk}
 use Rattle.rules.specs.Standings.{metalAtFirst, begun, without, more, joinedBy}
 use Rattle.rules.specs.Joins.{places, joinFrom, joinBy}
-use Rattle.rules.specs.Places.{segmentCode}
-use Rattle.rules.proofs.Certificates.{entryCost, tableCost, withinTest, settledTest, supportedTest, movesTest, placeTest, allBelow, allSegments, certified}
+use Rattle.rules.specs.Places.{segmentCode, entryCost}
+use Rattle.rules.proofs.Certificates.{tableCost, withinTest, settledTest, supportedTest, movesTest, placeTest, allBelow, allSegments, certified}
 use Rattle.plan.specs.Layout.{recordBits, planBytes}
 use Rattle.marked.specs.Table.{viaBelow, plainLines, plainJob, pin, Row, rowA, rowB, rowC, rowD, rowE, rowF, rowG, rowH, rowI, rowJ, rowK, rowL, rows}
 use Rattle.marked.specs.Table.{IsEdge, largestGrid, largerGrid, leastM, noM, edges}

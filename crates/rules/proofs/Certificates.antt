@@ -1,5 +1,5 @@
 -- A table of costs given as numbers, and a test that shows it to be a table of least costs.
---     entryCost, tableCost     a number as a cost, and the cost that the table has at a place
+--     tableCost                the cost that the table has at a place
 --     placeTest                what a table must satisfy at one place
 --     certified                the test at every good place
 --     certificate              a table that passes is a `Table`, and so has the least costs
@@ -18,7 +18,7 @@ use Rattle.job.specs.Grid.{vertices}
 use Rattle.job.specs.Job.{largestMinLength}
 use Rattle.job.proofs.Tests.{and-holds}
 use Rattle.paths.specs.Distances.{Cost, fin, inf, within, through, isCost, Table, dist}
-use Rattle.paths.specs.Starts.{Choice, best, startCost, Chooses}
+use Rattle.paths.specs.Starts.{Choice, startCost, Chooses}
 use Rattle.paths.proofs.Starts.{best-chooses, best-same}
 use Rattle.paths.proofs.Cheapest.{table-dist, follow-dist}
 use Rattle.rules.specs.Views.{View, member}
@@ -27,16 +27,11 @@ use Rattle.rules.specs.Prices.{Tech}
 use Rattle.rules.specs.Steps.{step, priced}
 use Rattle.rules.specs.Walks.{system}
 use Rattle.rules.specs.Joins.{places, starts, joinFrom, joinBy, joinOf}
-use Rattle.rules.specs.Places.{segmentCode, GoodSegment, GoodPlace, GoodTech}
+use Rattle.rules.specs.Places.{segmentCode, entryCost, GoodSegment, GoodPlace, GoodTech}
 use Rattle.rules.proofs.Places.{start-good}
 use Rattle.rules.proofs.Lawful.{lawful}
 
 -- ---- the table
-
--- 0 is infinite, and n + 1 is the cost n
-unfoldable pub entryCost : ℕ → Cost
-entryCost zero = inf
-entryCost (suc n) = fin n
 
 -- the cost at a place: the table has a row for each vertex, and the row an entry for each segment in the order of their numbers
 unfoldable pub tableCost : Tech → (table : List (List ℕ)) → Place → Cost

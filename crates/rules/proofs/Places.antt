@@ -1,15 +1,13 @@
 -- Places by number.
---     segmentOf, segment-code     a segment from its number
---     code-below                  a good place has a number below the number of places
---     code-apart                  two good places have two numbers
---     start-good                  a start of a join is a good place
---     places-small                there are at most 2^19 places
+--     segment-code, segment-below     a good segment from its number, which is below 2(M + 1)
+--     code-below                      a good place has a number below the number of places
+--     code-apart                      two good places have two numbers
+--     start-good                      a start of a join is a good place
+--     places-small                    there are at most 2^19 places
 use Prim.Native.Nat.{ℕ, _+_, _-_, _*_, _/_, _%_, _^_, _≤_, _<_}
 use mathlib.Core.Path.{_≡_, refl, sym, ap, _∙_}
-use mathlib.Core.Bool.{cond}
 use native.Mathlib.Nat.{mul-assoc, mul-le-mul}
 use native.Mathlib.Omega.{arith}
-use lib.Dec.{eqb, ltb}
 use lib.Arith.{digits-lt, digits-div, digits-mod}
 use borrow.Author.Tests.{lt-ltb, le-ltb, eq-eqb, ne-eqb}
 use Rattle.job.specs.Grid.{vertices}
@@ -18,21 +16,14 @@ use Rattle.rules.specs.Segments.{low, high, Segment, fresh, running, pai
 use Rattle.rules.specs.Prices.{Tech}
 use Rattle.rules.specs.Walks.{startAt}
 use Rattle.rules.specs.Joins.{places}
-use Rattle.rules.specs.Places.{segmentCode, placeCode, GoodSegment, GoodPlace, GoodTech}
+use Rattle.rules.specs.Places.{segmentCode, codeBy, placeCode, runningAt, segmentAt, GoodSegment, GoodPlace, GoodTech}
 use Rattle.rules.proofs.Techs.{some-largest, largest-small}
 
 -- ---- segments
 
--- the segment of a number
-segmentOf : (largest code : ℕ) → Segment
-segmentOf largest c =
-    cond (eqb c 0) fresh
-    (cond (ltb c (2 * largest - 1)) (running (cond (eqb (c % 2) 0) high low) ((c + 1) / 2))
-    (cond (eqb c (2 * largest - 1)) paid (cond (eqb c (2 * largest)) (paidToward low) (paidToward high))))
-
 -- a good segment is that of its number
-segment-code : (largest : ℕ) (s : Segment) → 1 ≤ largest → GoodSegment largest s → segmentOf largest (segmentCode largest s) ≡ s
-unfolding segmentOf segmentCode GoodSegment
+segment-code : (largest : ℕ) (s : Segment) → 1 ≤ largest → GoodSegment largest s → segmentAt largest (segmentCode largest s) ≡ s
+unfolding segmentAt runningAt segmentCode GoodSegment
 segment-code l fresh some h = refl
 segment-code l (running low n) some h =
     let odd : (2 * n - 1) % 2 ≡ 1 = omega arith in
@@ -55,7 +46,7 @@ segment-code l (paidToward high) some h =
     )
 
 -- a good segment has a number below 2(M + 1)
-segment-below : (largest : ℕ) (s : Segment) → GoodSegment largest s → segmentCode largest s < 2 * (largest + 1)
+pub segment-below : (largest : ℕ) (s : Segment) → GoodSegment largest s → segmentCode largest s < 2 * (largest + 1)
 unfolding segmentCode GoodSegment
 segment-below l fresh h = omega arith
 segment-below l (running low n) h = omega arith
@@ -68,12 +59,12 @@ segment-below l (paidToward high) h = omega arith
 
 -- a good place has a number below the number of places
 pub code-below : {t : Tech} {p : Place} → GoodPlace t p → placeCode t p < places t
-unfolding placeCode places
+unfolding placeCode codeBy places
 code-below {t} {p} h = rw mul-assoc (digits-lt (h .vertex) (segment-below (largestMinLength (t .lines)) (p .segment) (h .segment)))
 
 -- two good places have two numbers
 pub code-apart : {t : Tech} {p q : Place} → GoodTech t → GoodPlace t p → GoodPlace t q → placeCode t p ≡ placeCode t q → p ≡ q
-unfolding placeCode
+unfolding placeCode codeBy
 code-apart {t} {p} {q} good hp hq e =
     let l = largestMinLength (t .lines) in
     let some = some-largest good (hp .vertex) in
@@ -83,7 +74,7 @@ code-apart {t} {p} {q} good hp hq e =
     let code : segmentCode l (p .segment) ≡ segmentCode l (q .segment) =
     sym (digits-mod (p .vertex) bp) ∙ ap (λ (x : ℕ). x % (2 * (l + 1))) e ∙ digits-mod (q .vertex) bq in
     let segment : p .segment ≡ q .segment =
-    sym (segment-code l (p .segment) some (hp .segment)) ∙ ap (segmentOf l) code ∙ segment-code l (q .segment) some (hq .segment) in
+    sym (segment-code l (p .segment) some (hp .segment)) ∙ ap (segmentAt l) code ∙ segment-code l (q .segment) some (hq .segment) in
     λ i. record { vertex = vertex i; segment = segment i }
 
 -- a start of a join is a good place

@@ -1,13 +1,18 @@
 -- The places of a search by number, and what a job's layers must satisfy.
---     segmentCode, placeCode     a segment's number, and a place's: by vertex, then segment
---     GoodSegment, GoodPlace     a vertex of the grid, and a running length from 1 to below the largest M
---     GoodTech                   what a good job says of its layers
-use Prim.Native.Nat.{ℕ, _+_, _-_, _*_, _^_, _≤_, _<_}
+--     segmentCode, codeBy, placeCode   a segment's number, and a place's: by vertex, then segment
+--     segmentAt, placeAt               the segment and the place of a number
+--     entryCost                        an entry of a table of costs
+--     GoodSegment, GoodPlace           a vertex of the grid, and a running length from 1 to below the largest M
+--     GoodTech                         what a good job says of its layers
+use Prim.Native.Nat.{ℕ, zero, suc, _+_, _-_, _*_, _/_, _%_, _^_, _≤_, _<_}
 use mathlib.Core.Path.{_≡_}
+use mathlib.Core.Bool.{cond}
 use lib.ListN.{length}
+use lib.Dec.{eqb, ltb}
 use Rattle.job.specs.Grid.{vertices}
 use Rattle.job.specs.Job.{largestMinLength}
 use Rattle.job.specs.Good.{GoodGrid, GoodLines}
+use Rattle.paths.specs.Distances.{Cost, fin, inf}
 use Rattle.rules.specs.Segments.{low, high, Segment, fresh, running, paid, paidToward, Place}
 use Rattle.rules.specs.Prices.{Tech}
 
@@ -21,10 +26,31 @@ segmentCode largest (paidToward low) = 2 * largest
 segmentCode largest (paidToward high) = 2 * largest + 1
 
 -- 2(M + 1) numbers for each vertex, with M the largest
+unfoldable pub codeBy : (largest : ℕ) → Place → ℕ
+codeBy largest p = p .vertex * (2 * (largest + 1)) + segmentCode largest (p .segment)
+
 unfoldable pub placeCode : Tech → Place → ℕ
-placeCode t p =
-    let largest = largestMinLength (t .lines) in
-    p .vertex * (2 * (largest + 1)) + segmentCode largest (p .segment)
+placeCode t p = codeBy (largestMinLength (t .lines)) p
+
+-- a running segment: odd numbers go low, even ones high
+unfoldable pub runningAt : (code : ℕ) → Segment
+runningAt c = running (cond (eqb (c % 2) 0) high low) ((c + 1) / 2)
+
+-- the segment of a number
+unfoldable pub segmentAt : (largest code : ℕ) → Segment
+segmentAt largest c =
+    cond (eqb c 0) fresh
+    (cond (ltb c (2 * largest - 1)) (runningAt c)
+    (cond (eqb c (2 * largest - 1)) paid (cond (eqb c (2 * largest)) (paidToward low) (paidToward high))))
+
+-- the place of a number
+unfoldable pub placeAt : (largest code : ℕ) → Place
+placeAt largest c = record { vertex = c / (2 * (largest + 1)); segment = segmentAt largest (c % (2 * (largest + 1))) }
+
+-- an entry of a table of costs: 0 is infinite, and n + 1 is the cost n
+unfoldable pub entryCost : ℕ → Cost
+entryCost zero = inf
+entryCost (suc n) = fin n
 
 -- "Length M or more is paid": a running length is below the largest M, and a step has been made
 unfoldable pub GoodSegment : (largest : ℕ) → Segment → Type 0

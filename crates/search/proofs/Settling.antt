@@ -1,0 +1,67 @@
+-- Passes until one changes nothing.
+--     count-is                           how many places there are, as the code counts them
+--     Settling, settling-begun, -on      so far the table is held
+--     settled-table                      a pass that changes nothing leaves a table of least costs
+use Prim.Native.Nat.{ℕ, _+_, _*_, _≤_}
+use mathlib.Core.Path.{_≡_, refl, _∙_}
+use mathlib.Core.List.{List}
+use mathlib.Core.Bool.{Bool, true, false}
+use lib.ListN.{length, getD}
+use lib.Dec.{eqb}
+use Rattle.job.specs.Grid.{vertices}
+use Rattle.job.specs.Structs.{gridOf}
+use Rattle.paths.specs.Distances.{Table}
+use Rattle.rules.specs.Views.{View, member}
+use Rattle.rules.specs.Segments.{Place}
+use Rattle.rules.specs.Prices.{Tech}
+use Rattle.rules.specs.Walks.{system}
+use Rattle.rules.specs.Joins.{places}
+use Rattle.rules.specs.Places.{GoodPlace, GoodTech}
+use Rattle.rules.specs.Structs.{techBy}
+use Rattle.rules.specs.declared.price.Tech.{Tech as TechStruct}
+use Rattle.tree.specs.Spots.{Spots}
+use Rattle.tree.proofs.Marked.{spot-goal}
+use Rattle.metal.specs.Codes.{Beyond, Bare}
+use Rattle.metal.proofs.Slices.{beyond-refl, beyond-trans}
+use Rattle.search.specs.Tables.{tableBy, systemBy, Searched}
+use Rattle.search.specs.Passes.{Held, Still, Passed}
+use Rattle.search.proofs.Lowering.{still-table}
+use Rattle.search.proofs.Holding.{bare-held}
+
+-- how many places there are, as the code counts them
+pub count-is : {tech : TechStruct} {v largest : ℕ} → Searched tech largest → v ≡ vertices (gridOf (tech .grid)) → v * 2 * (largest + 1) ≡ places (techBy tech)
+unfolding places techBy
+count-is held all = rw (all, held .is) refl
+
+-- so far the table is held, and the rest of the slice is as found
+pub record Settling (t : Tech) (view : View) (spots : List ℕ) (found work : List ℕ) : Type 0 where
+  pub held : Held t view spots work
+  pub kept : Beyond (places t) work found
+
+module _ {t : Tech} {view : View} {spots found : List ℕ} where
+  -- no pass is made
+  pub settling-begun : GoodTech t → places t ≤ length found → Bare (places t) found → Settling t view spots found found
+  settling-begun good room bare = record { held = bare-held view spots good room bare; kept = beyond-refl (places t) found }
+
+  -- one more
+  pub settling-on : {work after : List ℕ} {changed : Bool} → Settling t view spots found work → Passed t view spots work after changed
+      → Settling t view spots found after
+  settling-on so-far pass = record { held = pass .held; kept = beyond-trans (pass .kept) (so-far .kept) }
+
+-- costs that are what they would become are a table, whatever list the bytes hold
+pub settled-table : (t : Tech) (view : View) (spots work : List ℕ) → Still t view spots work → (tree unjoined : List ℕ)
+    → Spots (t .grid) tree unjoined spots → ((v : ℕ) → member v tree ≡ true → member v unjoined ≡ false)
+    → Table (system t view unjoined) (GoodPlace t) (tableBy t work)
+unfolding Still
+settled-table t view spots work still tree unjoined marked apart =
+    record {
+      goals = λ {s} fine g. told .goals fine (goal s fine ∙ g);
+      settled = λ {s} {m} fine g known. told .settled fine (goal s fine ∙ g) known;
+      supported = λ {s} {n} fine g is. told .supported fine (goal s fine ∙ g) is;
+    }
+  where
+    told : Table (systemBy t view spots) (GoodPlace t) (tableBy t work)
+    told = still-table (systemBy t view spots) (tableBy t work) still
+
+    goal : (p : Place) → GoodPlace t p → eqb (getD spots (p .vertex) 0) 2 ≡ member (p .vertex) unjoined
+    goal p fine = spot-goal (t .grid) tree unjoined spots (p .vertex) (apart (p .vertex)) (fine .vertex) marked
