@@ -19,4 +19,5 @@ pub mod marked;
 pub mod places;
 pub mod random;
 pub mod reader;
+pub mod rules;
 pub mod sizing;
