@@ -5,7 +5,9 @@
 //! library (`library`) and to the second reader (`reader`, `sizing`). Both must
 //! give the same answer (`compare`).
 //!
-//! Not here: routing and replay.
+//! Plans are data too (`plan`); `rules`, `joining` and `replay` read them back. The
+//! library's replay is declared, but it isn't there yet, so the second one stands
+//! in for it.
 
 pub mod bits;
 pub mod compare;
@@ -13,11 +15,14 @@ pub mod damage;
 pub mod generate;
 pub mod grid;
 pub mod job;
+pub mod joining;
 pub mod largest;
 pub mod library;
 pub mod marked;
 pub mod places;
+pub mod plan;
 pub mod random;
 pub mod reader;
+pub mod replay;
 pub mod rules;
 pub mod sizing;
