@@ -24,5 +24,6 @@ pub mod plan;
 pub mod random;
 pub mod reader;
 pub mod replay;
+pub mod router;
 pub mod rules;
 pub mod sizing;
