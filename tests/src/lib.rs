@@ -10,6 +10,7 @@
 //! in for it.
 
 pub mod bits;
+pub mod brute;
 pub mod compare;
 pub mod damage;
 pub mod generate;
