@@ -1,13 +1,13 @@
-//! Checks the router's sizing call against a second reader of the job format.
+//! Checks the library's calls against a second implementation, written from the
+//! document alone.
 //!
-//! A job is built as data (`job`), by hand (`marked`, `largest`) or at random
-//! (`generate`), packed to bytes, perhaps damaged (`damage`), and given to the
-//! library (`library`) and to the second reader (`reader`, `sizing`). Both must
-//! give the same answer (`compare`).
-//!
-//! Plans are data too (`plan`); `rules`, `joining` and `replay` read them back. The
-//! library's replay is declared, but it isn't there yet, so the second one stands
-//! in for it.
+//! - Jobs are data (`job`), made by hand (`marked`, `largest`) or at random
+//!   (`generate`), and plans are too (`plan`, `wander`); `damage` makes both bad.
+//! - The second implementation reads jobs (`reader`, `sizing`), has the rules of
+//!   moves (`rules`) and nets (`joining`), routes (`router`) and replays (`replay`).
+//!   It is itself held against every short route (`brute`).
+//! - `library` has the library's calls, and `compare` asks both; `pairs` says which
+//!   jobs and plans replay is asked about.
 
 pub mod bits;
 pub mod brute;
@@ -20,6 +20,7 @@ pub mod joining;
 pub mod largest;
 pub mod library;
 pub mod marked;
+pub mod pairs;
 pub mod places;
 pub mod plan;
 pub mod random;
@@ -28,3 +29,4 @@ pub mod replay;
 pub mod router;
 pub mod rules;
 pub mod sizing;
+pub mod wander;
