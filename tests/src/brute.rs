@@ -1,8 +1,8 @@
 //! Every short route of a join, judged as a whole list of moves.
 //!
-//! This shares nothing with `rules`: it holds metal as one set of vertices for
-//! each net, cuts a list of moves into segments at its vias, and counts clear
-//! vertices one by one. It is slow, and meant for tiny grids.
+//! Of `rules` it takes nothing but the names of the moves: it holds metal as one
+//! set of vertices for each net, cuts a list of moves into segments at its vias,
+//! and counts clear vertices one by one. It is slow, and meant for tiny grids.
 
 mod judge;
 
