@@ -9,6 +9,11 @@ pub struct BitWriter {
 
 impl BitWriter {
     pub fn put(&mut self, value: u32, width: usize) {
+        self.put_wide(u64::from(value), width);
+    }
+
+    /// A field of up to 63 bits.
+    pub fn put_wide(&mut self, value: u64, width: usize) {
         assert!(value >> width == 0, "{value} does not fit {width} bits");
         for shift in (0..width).rev() {
             if self.position.is_multiple_of(8) {
@@ -46,10 +51,16 @@ impl<'a> BitReader<'a> {
     }
 
     pub fn take(&mut self, width: usize) -> u32 {
+        assert!(width <= 32);
+        self.take_wide(width) as u32
+    }
+
+    /// A field of up to 64 bits.
+    pub fn take_wide(&mut self, width: usize) -> u64 {
         let mut value = 0;
         for _ in 0..width {
             let byte = self.bytes[self.position / 8];
-            value = value << 1 | u32::from(byte >> (7 - self.position % 8) & 1);
+            value = value << 1 | u64::from(byte >> (7 - self.position % 8) & 1);
             self.position += 1;
         }
         value

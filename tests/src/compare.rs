@@ -1,4 +1,7 @@
-//! The library's answer beside the second reader's, and a tally of refusals.
+//! The library's answer to sizing beside the second reader's, and a tally of
+//! refusals. Replay has its own, in `replay`.
+
+pub mod replay;
 
 use std::collections::HashSet;
 use std::fmt;

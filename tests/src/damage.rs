@@ -1,4 +1,5 @@
-//! Good jobs made bad.
+//! Good jobs and good plans made bad.
 
 pub mod aimed;
 pub mod blind;
+pub mod plan;

@@ -2,6 +2,9 @@
 //!
 //! Ends of ranges come up often: grids of one vertex and of 16,384, obstacles
 //! that end at the grid's end, prices 1 and 1,023, closed penalties, M 1 and 15.
+//! Jobs that are meant for routing are in `routable`.
+
+pub mod routable;
 
 use crate::grid::{vertex, Grid, Vertex, MOST_COLUMNS, MOST_LAYERS, MOST_ROWS, MOST_VERTICES};
 use crate::job::{GuideBox, Job, Layer, Net, Obstacle, CLOSED, EDITION, MOST_BOXES, MOST_PINS};
@@ -80,6 +83,10 @@ fn obstacles(grid: &Grid, random: &mut Random) -> Vec<Obstacle> {
         12..=18 => random.between(5, 30),
         _ => random.between(31, 300),
     };
+    some_obstacles(count, grid, random)
+}
+
+fn some_obstacles(count: u32, grid: &Grid, random: &mut Random) -> Vec<Obstacle> {
     let mut obstacles: Vec<Obstacle> = Vec::new();
     for _ in 0..count {
         let start = if !obstacles.is_empty() && random.one_in(4) {
@@ -126,9 +133,20 @@ fn nets(grid: &Grid, obstacles: &[Obstacle], random: &mut Random) -> Vec<Net> {
         _ => random.between(26, 255),
     };
     let mut free = free_vertices(grid, obstacles);
+    some_nets(count, MOST_PINS, &mut free, grid, random)
+}
+
+/// As many nets as the free vertices have room for; their pins are taken away.
+fn some_nets(
+    count: u32,
+    most_pins: usize,
+    free: &mut Vec<Vertex>,
+    grid: &Grid,
+    random: &mut Random,
+) -> Vec<Net> {
     let mut nets = Vec::new();
     while nets.len() < count as usize && free.len() >= 2 {
-        let most = free.len().min(MOST_PINS) as u32;
+        let most = free.len().min(most_pins) as u32;
         let pins = (0..random.edgy(2, most)).map(|_| free.swap_remove(random.index(free.len())));
         let pins = pins.collect();
         let boxes = boxes(grid, random);

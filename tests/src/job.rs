@@ -69,6 +69,11 @@ impl Job {
         }
     }
 
+    pub fn largest_min_length(&self) -> u32 {
+        let lengths = self.layers.iter().map(|layer| layer.min_length);
+        lengths.max().expect("a job has a layer")
+    }
+
     pub fn pack(&self) -> Vec<u8> {
         let mut bits = BitWriter::default();
         self.put_head(&mut bits);
@@ -116,7 +121,7 @@ fn put_net(bits: &mut BitWriter, net: &Net) {
     }
 }
 
-fn put_vertex(bits: &mut BitWriter, v: Vertex) {
+pub fn put_vertex(bits: &mut BitWriter, v: Vertex) {
     bits.put(v.layer, 3);
     bits.put(v.row, 8);
     bits.put(v.column, 8);

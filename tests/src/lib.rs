@@ -1,22 +1,32 @@
-//! Checks the router's sizing call against a second reader of the job format.
+//! Checks the library's calls against a second implementation, written from the
+//! document alone.
 //!
-//! A job is built as data (`job`), by hand (`marked`, `largest`) or at random
-//! (`generate`), packed to bytes, perhaps damaged (`damage`), and given to the
-//! library (`library`) and to the second reader (`reader`, `sizing`). Both must
-//! give the same answer (`compare`).
-//!
-//! Not here: routing and replay.
+//! - Jobs are data (`job`), made by hand (`marked`, `largest`) or at random
+//!   (`generate`), and plans are too (`plan`, `wander`); `damage` makes both bad.
+//! - The second implementation reads jobs (`reader`, `sizing`), has the rules of
+//!   moves (`rules`) and nets (`joining`), routes (`router`) and replays (`replay`).
+//!   It is itself held against every short route (`brute`).
+//! - `library` has the library's calls, and `compare` asks both; `pairs` says which
+//!   jobs and plans replay is asked about.
 
 pub mod bits;
+pub mod brute;
 pub mod compare;
 pub mod damage;
 pub mod generate;
 pub mod grid;
 pub mod job;
+pub mod joining;
 pub mod largest;
 pub mod library;
 pub mod marked;
+pub mod pairs;
 pub mod places;
+pub mod plan;
 pub mod random;
 pub mod reader;
+pub mod replay;
+pub mod router;
+pub mod rules;
 pub mod sizing;
+pub mod wander;

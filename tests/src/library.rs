@@ -1,4 +1,6 @@
-//! The library's sizing call, as `include/maizespell.h` declares it.
+//! The library's calls, as `include/maizespell.h` declares them.
+
+use crate::replay::Replay;
 
 /// Refusal 0 is none. A refusal leaves vertices and work 0; a good job leaves
 /// refusal and place 0.
@@ -11,12 +13,61 @@ pub struct SizingResult {
     pub work: u64,
 }
 
+/// Refusal 0 is none. A refusal leaves the totals 0; a replayed plan leaves
+/// refusal and place 0.
+#[repr(C)]
+#[derive(Clone, Copy, Debug, Default, PartialEq, Eq)]
+pub struct ReplayResult {
+    pub refusal: u64,
+    pub place: u64,
+    pub cost: u64,
+    pub added: u64,
+    pub penalties: u64,
+    pub joined: u64,
+}
+
+/// The replay that the tests hold against the second one. The library has no
+/// replay yet, so the second one stands in; with it, this is `replay`.
+pub const REPLAY: Replay = crate::replay::replay;
+
 extern "C" {
     fn maizespell_sizing(job: *const u8, job_len: usize) -> SizingResult;
+
+    fn maizespell_replay(
+        job: *const u8,
+        job_len: usize,
+        plan: *const u8,
+        plan_len: usize,
+        map: *mut u16,
+        map_len: usize,
+        work: *mut u64,
+        work_len: usize,
+    ) -> ReplayResult;
 }
 
 /// What the library says about these bytes.
 pub fn sizing(job: &[u8]) -> SizingResult {
     // SAFETY: pointer and length are of one live slice, which the call only reads.
     unsafe { maizespell_sizing(job.as_ptr(), job.len()) }
+}
+
+/// What the library says about this job and this plan. Nothing may use it, and so
+/// nothing links it, before the library has the call.
+#[allow(dead_code)]
+fn replay(job: &[u8], plan: &[u8], map: &mut [u16], work: &mut [u64]) -> ReplayResult {
+    let (map_len, work_len) = (map.len(), work.len());
+    // SAFETY: each pointer and its length are of one live slice; the call only
+    // reads job and plan, and map and work are lent to it alone.
+    unsafe {
+        maizespell_replay(
+            job.as_ptr(),
+            job.len(),
+            plan.as_ptr(),
+            plan.len(),
+            map.as_mut_ptr(),
+            map_len,
+            work.as_mut_ptr(),
+            work_len,
+        )
+    }
 }

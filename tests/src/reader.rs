@@ -135,7 +135,7 @@ fn read_layer(bits: &mut BitReader, top: bool) -> Result<Layer, Refusal> {
     })
 }
 
-fn read_vertex(bits: &mut BitReader) -> Vertex {
+pub fn read_vertex(bits: &mut BitReader) -> Vertex {
     let layer = bits.take(3);
     let row = bits.take(8);
     let column = bits.take(8);

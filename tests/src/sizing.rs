@@ -7,11 +7,7 @@ use crate::reader::{read, Refusal};
 pub fn expected(bytes: &[u8]) -> SizingResult {
     match read(bytes) {
         Err(refusal) => refused(refusal),
-        Ok(job) => {
-            let lengths = job.layers.iter().map(|layer| layer.min_length);
-            let largest = lengths.max().expect("a job has a layer");
-            sized(job.grid().vertices(), largest)
-        }
+        Ok(job) => sized(job.grid().vertices(), job.largest_min_length()),
     }
 }
 

@@ -122,7 +122,7 @@ fn obstacle_outside(job: &mut Job, random: &mut Random) -> Option<u64> {
 
 /// The vertex with its layer, row or column moved past the grid's end, often by
 /// one; None where the grid fills every field.
-fn outside(grid: &Grid, inside: Vertex, random: &mut Random) -> Option<Vertex> {
+pub fn outside(grid: &Grid, inside: Vertex, random: &mut Random) -> Option<Vertex> {
     let mut choices = Vec::new();
     if grid.layers < MOST_LAYERS {
         let layer = random.edgy(grid.layers, MOST_LAYERS - 1);

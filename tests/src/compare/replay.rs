@@ -1,0 +1,100 @@
+//! A replay beside the second one: its answer and the whole of both slices.
+
+mod tally;
+
+pub use tally::{Difference, Tally};
+
+use crate::library::ReplayResult;
+use crate::replay::{replay, Replay};
+
+/// What the slices hold before a call; no answer puts it there.
+const MAP_MARK: u16 = 0xA5C3;
+const WORK_MARK: u64 = 0xA5C3_96E1_5A3C_691E;
+
+/// What a replay is called with.
+#[derive(Clone, Copy)]
+pub struct Case<'a> {
+    pub kind: &'static str,
+    pub job: &'a [u8],
+    pub plan: &'a [u8],
+    pub map_len: usize,
+    pub work_len: usize,
+}
+
+/// What a replay has answered, and the slices that it has left.
+#[derive(Default)]
+struct Answer {
+    result: ReplayResult,
+    map: Vec<u16>,
+    work: Vec<u64>,
+}
+
+impl Answer {
+    fn ask(&mut self, replay: Replay, case: &Case) {
+        self.map.clear();
+        self.map.resize(case.map_len, MAP_MARK);
+        self.work.clear();
+        self.work.resize(case.work_len, WORK_MARK);
+        self.result = replay(case.job, case.plan, &mut self.map, &mut self.work);
+    }
+}
+
+/// Asks both and keeps the tally. Its slices are used again and again.
+pub struct Comparison {
+    replay: Replay,
+    expected: Answer,
+    given: Answer,
+    pub tally: Tally,
+}
+
+impl Comparison {
+    /// This replay against the second one.
+    pub fn of(replay: Replay) -> Self {
+        Comparison {
+            replay,
+            expected: Answer::default(),
+            given: Answer::default(),
+            tally: Tally::default(),
+        }
+    }
+
+    /// The expected answer; a difference goes to the tally.
+    pub fn ask(&mut self, case: &Case) -> ReplayResult {
+        self.expected.ask(replay, case);
+        self.given.ask(self.replay, case);
+        let result = self.expected.result;
+        self.tally.count(&result);
+        if let Some(difference) = self.difference(case) {
+            self.tally.keep(difference);
+        }
+        result
+    }
+
+    /// The map slice that the second replay has left.
+    pub fn expected_map(&self) -> &[u16] {
+        &self.expected.map
+    }
+
+    fn difference(&self, case: &Case) -> Option<Difference> {
+        let (expected, given) = (&self.expected, &self.given);
+        let same_slices = expected.map == given.map && expected.work == given.work;
+        if same_slices && expected.result == given.result {
+            return None;
+        }
+        Some(Difference {
+            kind: case.kind,
+            job: case.job.to_vec(),
+            plan: case.plan.to_vec(),
+            expected: expected.result,
+            given: given.result,
+            map: first_difference(&expected.map, &given.map),
+            work: first_difference(&expected.work, &given.work),
+        })
+    }
+}
+
+fn first_difference<T: Copy + PartialEq>(expected: &[T], given: &[T]) -> Option<(usize, T, T)> {
+    let mut pairs = expected.iter().zip(given).enumerate();
+    let (index, (expected, given)) = pairs.find(|(_, (expected, given))| expected != given)?;
+    Some((index, *expected, *given))
+}

@@ -1,0 +1,43 @@
+//! The second router: every net in job order, join by join, each the cheapest.
+
+pub mod search;
+
+use std::convert::Infallible;
+
+use crate::joining::{join_nets, Joined, NetAtHand, Walk};
+use crate::plan::{Join, Record};
+use crate::rules::board::Board;
+use search::Search;
+
+/// What routing a job gives.
+pub struct Routed {
+    pub records: Vec<Record>,
+    pub joined: Joined,
+}
+
+pub fn route(board: &Board) -> Routed {
+    let mut search = Search::new(board);
+    let mut records = Vec::new();
+    let joined = join_nets(board, |net| {
+        let Some(join) = search.cheapest(net) else {
+            records.push(Record::NoJoin);
+            return Ok::<_, Infallible>(None);
+        };
+        let walk = walk(board, net, &join);
+        records.push(Record::Join(join));
+        Ok(Some(walk))
+    });
+    let Ok(joined) = joined;
+    Routed { records, joined }
+}
+
+/// Walks a join that is known to be legal.
+pub fn walk(board: &Board, net: &NetAtHand, join: &Join) -> Walk {
+    let mut walk = Walk::start(board.job.grid().number(join.start));
+    for by in &join.moves {
+        let step = net.view.step(walk.place, *by);
+        walk.go(step.expect("every move of a join is legal"));
+    }
+    assert_eq!(walk.cost, join.cost, "a join costs what its moves cost");
+    walk
+}

@@ -1,0 +1,191 @@
+//! The cheapest join of the net at hand: Dijkstra over places.
+//!
+//! Costs are found forward, from every vertex of the tree at once. Ties are then
+//! settled on the cheapest routes alone: the places that lie on one are marked
+//! from the pins backwards, and the join is walked from the lowest marked start,
+//! each time by the lowest move that stays on a cheapest route.
+//!
+//! Every move costs at least 1, so costs grow along a route, and once a pin's
+//! cost is known every lower cost in the table is final.
+
+use std::cmp::Reverse;
+use std::collections::BinaryHeap;
+
+use crate::joining::NetAtHand;
+use crate::plan::Join;
+use crate::rules::board::Board;
+use crate::rules::moves::Move;
+use crate::rules::segment::Segment;
+use crate::rules::step::{Place, Step};
+
+/// The cost of a place that was not reached.
+const UNREACHED: u64 = u64::MAX;
+
+/// Low bits of a heap entry, which hold the place; its cost stands above them.
+/// There are at most 16,384 × 32 = 2^19 places, and a cheapest route costs less
+/// than 2^18 for each.
+const PLACE_BITS: u32 = 19;
+
+/// Tables with one entry a place, numbered by vertex, then segment.
+pub struct Search<'a> {
+    board: &'a Board<'a>,
+    segments: usize,
+    cost: Vec<u64>,
+    on_cheapest: Vec<bool>,
+    reached: Vec<u32>,
+    heap: BinaryHeap<Reverse<u64>>,
+}
+
+impl<'a> Search<'a> {
+    pub fn new(board: &'a Board<'a>) -> Self {
+        let segments = board.segments();
+        let places = board.vertices() * segments;
+        assert!(places <= 1 << PLACE_BITS);
+        Search {
+            board,
+            segments,
+            cost: vec![UNREACHED; places],
+            on_cheapest: vec![false; places],
+            reached: Vec::new(),
+            heap: BinaryHeap::new(),
+        }
+    }
+
+    /// "The cheapest is taken; among equals the lowest start vertex, then the
+    /// move list that comes first by move number."
+    pub fn cheapest(&mut self, net: &NetAtHand) -> Option<Join> {
+        self.forget();
+        let cost = self.reach_a_pin(net)?;
+        self.mark_back(net, cost);
+        Some(self.walk_marked(net, cost))
+    }
+
+    fn number(&self, place: Place) -> usize {
+        place.vertex * self.segments + place.segment.code() as usize
+    }
+
+    fn numbered(&self, number: usize) -> Place {
+        Place {
+            vertex: number / self.segments,
+            segment: Segment::coded((number % self.segments) as u32),
+        }
+    }
+
+    /// Clears what the last join has left in the tables.
+    fn forget(&mut self) {
+        for number in self.reached.drain(..) {
+            self.cost[number as usize] = UNREACHED;
+            self.on_cheapest[number as usize] = false;
+        }
+        self.heap.clear();
+    }
+
+    fn reach(&mut self, number: usize, cost: u64) {
+        if cost >= self.cost[number] {
+            return;
+        }
+        if self.cost[number] == UNREACHED {
+            self.reached.push(number as u32);
+        }
+        self.cost[number] = cost;
+        self.heap.push(Reverse(cost << PLACE_BITS | number as u64));
+    }
+
+    /// The cost of the cheapest join. No route goes on from an unjoined pin.
+    fn reach_a_pin(&mut self, net: &NetAtHand) -> Option<u64> {
+        for vertex in net.tree() {
+            self.reach(self.number(Place::start(*vertex)), 0);
+        }
+        while let Some(Reverse(entry)) = self.heap.pop() {
+            let cost = entry >> PLACE_BITS;
+            let number = (entry & ((1 << PLACE_BITS) - 1)) as usize;
+            if cost > self.cost[number] {
+                continue;
+            }
+            let from = self.numbered(number);
+            if net.unjoined(from.vertex) {
+                return Some(cost);
+            }
+            for by in Move::ALL {
+                if let Ok(step) = net.view.step(from, by) {
+                    self.reach(self.number(step.to), cost + step.cost());
+                }
+            }
+        }
+        None
+    }
+
+    /// Marks each place that lies on a route of this cost, the cheapest.
+    fn mark_back(&mut self, net: &NetAtHand, cost: u64) {
+        let mut marked: Vec<usize> = Vec::new();
+        for number in &self.reached {
+            let number = *number as usize;
+            if self.cost[number] == cost && net.unjoined(number / self.segments) {
+                self.on_cheapest[number] = true;
+                marked.push(number);
+            }
+        }
+        while let Some(number) = marked.pop() {
+            for by in Move::ALL {
+                self.mark_before(net, number, by, &mut marked);
+            }
+        }
+    }
+
+    /// Marks the places from which this move leads to a marked one as cheaply as
+    /// that can be reached.
+    fn mark_before(&mut self, net: &NetAtHand, to: usize, by: Move, marked: &mut Vec<usize>) {
+        let vertex = to / self.segments;
+        let Some(before) = self.board.neighbours.entered(vertex, by.opposite()) else {
+            return;
+        };
+        for number in before * self.segments..(before + 1) * self.segments {
+            if self.cost[number] >= self.cost[to] || self.on_cheapest[number] {
+                continue;
+            }
+            let Ok(step) = net.view.step(self.numbered(number), by) else {
+                continue;
+            };
+            if self.number(step.to) == to && self.keeps_cost(number, &step) {
+                self.on_cheapest[number] = true;
+                marked.push(number);
+            }
+        }
+    }
+
+    /// Whether the step reaches its place at the place's least cost.
+    fn keeps_cost(&self, from: usize, step: &Step) -> bool {
+        self.cost[from] + step.cost() == self.cost[self.number(step.to)]
+    }
+
+    /// The join that comes first among the marked routes.
+    fn walk_marked(&self, net: &NetAtHand, cost: u64) -> Join {
+        let starts = net.tree().iter().copied();
+        let marked = |vertex: &usize| self.on_cheapest[self.number(Place::start(*vertex))];
+        let start = starts.filter(marked).min().expect("a route has a start");
+        let mut moves = Vec::new();
+        let mut place = Place::start(start);
+        while !net.unjoined(place.vertex) {
+            let (by, step) = self.lowest_marked_move(net, place);
+            moves.push(by);
+            place = step.to;
+        }
+        Join {
+            start: self.board.job.grid().numbered(start as u32),
+            moves,
+            cost,
+        }
+    }
+
+    fn lowest_marked_move(&self, net: &NetAtHand, from: Place) -> (Move, Step) {
+        let number = self.number(from);
+        for by in Move::ALL {
+            if let Ok(step) = net.view.step(from, by) {
+                if self.on_cheapest[self.number(step.to)] && self.keeps_cost(number, &step) {
+                    return (by, step);
+                }
+            }
+        }
+        panic!("a marked place leads to a pin");
+    }
+}

@@ -1,0 +1,78 @@
+//! A job laid out on its grid: what stands there before any join.
+
+use crate::job::{GuideBox, Job, Layer};
+use crate::rules::moves::Neighbours;
+use crate::rules::segment::Segment;
+
+pub struct Board<'a> {
+    pub job: &'a Job,
+    pub neighbours: Neighbours,
+    obstacle: Vec<bool>,
+    /// The net that has its pin here, counted from 1; 0 for none.
+    pin_of: Vec<u16>,
+    vertices_of_a_layer: usize,
+}
+
+impl<'a> Board<'a> {
+    pub fn new(job: &'a Job) -> Self {
+        let grid = job.grid();
+        let vertices = grid.vertices() as usize;
+        let mut board = Board {
+            job,
+            neighbours: Neighbours::of(&grid),
+            obstacle: vec![false; vertices],
+            pin_of: vec![0; vertices],
+            vertices_of_a_layer: (grid.rows * grid.columns) as usize,
+        };
+        for obstacle in &job.obstacles {
+            for step in 0..obstacle.run {
+                board.obstacle[grid.number(grid.along(obstacle.start, step))] = true;
+            }
+        }
+        for (index, net) in job.nets.iter().enumerate() {
+            for pin in &net.pins {
+                board.pin_of[grid.number(*pin)] = index as u16 + 1;
+            }
+        }
+        board
+    }
+
+    pub fn vertices(&self) -> usize {
+        self.obstacle.len()
+    }
+
+    /// Codes of segments, for each vertex.
+    pub fn segments(&self) -> usize {
+        Segment::codes(self.job.largest_min_length()) as usize
+    }
+
+    /// "Vertices × 4 × (largest M + 1) 64-bit numbers."
+    pub fn work_need(&self) -> usize {
+        self.vertices() * 4 * (self.job.largest_min_length() as usize + 1)
+    }
+
+    pub fn obstacle(&self, vertex: usize) -> bool {
+        self.obstacle[vertex]
+    }
+
+    pub fn pin_of(&self, vertex: usize) -> u16 {
+        self.pin_of[vertex]
+    }
+
+    pub fn layer(&self, vertex: usize) -> &'a Layer {
+        &self.job.layers[vertex / self.vertices_of_a_layer]
+    }
+
+    /// "No boxes: the whole grid is inside the guide."
+    pub fn in_guide(&self, net: u16, vertex: usize) -> bool {
+        let boxes = &self.job.nets[net as usize - 1].boxes;
+        let v = self.job.grid().numbered(vertex as u32);
+        let holds = |guide: &GuideBox| {
+            let GuideBox { low, high } = guide;
+            (low.layer..=high.layer).contains(&v.layer)
+                && (low.row..=high.row).contains(&v.row)
+                && (low.column..=high.column).contains(&v.column)
+        };
+        boxes.is_empty() || boxes.iter().any(holds)
+    }
+}

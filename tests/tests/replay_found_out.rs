@@ -1,0 +1,91 @@
+//! The comparison itself: a replay with one small fault is found out.
+
+use maizespell_tests::pairs::Pairs;
+use maizespell_tests::replay::{replay, Replay};
+
+const SEED: u64 = 12;
+const JOBS: u32 = 25;
+
+/// The second replay with a fault, each with what it does wrong.
+const FAULTY: [(&str, Replay); 10] = [
+    ("cost one more", |job, plan, map, work| {
+        let mut result = replay(job, plan, map, work);
+        result.cost += u64::from(result.refusal == 0);
+        result
+    }),
+    ("nets joined with each penalty", |job, plan, map, work| {
+        let mut result = replay(job, plan, map, work);
+        result.joined += u64::from(result.penalties > 0);
+        result
+    }),
+    ("added steps left out", |job, plan, map, work| {
+        let mut result = replay(job, plan, map, work);
+        result.added = 0;
+        result
+    }),
+    ("move counted from its end", |job, plan, map, work| {
+        let mut result = replay(job, plan, map, work);
+        result.place += 2 * u64::from(result.refusal == 17);
+        result
+    }),
+    ("short work called a short map", |job, plan, map, work| {
+        let mut result = replay(job, plan, map, work);
+        if result.refusal == 13 {
+            result.refusal = 12;
+        }
+        result
+    }),
+    ("work not zero", |job, plan, map, work| {
+        let result = replay(job, plan, map, work);
+        if result.refusal == 0 {
+            work[0] = 1;
+        }
+        result
+    }),
+    ("work beyond its need zero", |job, plan, map, work| {
+        let result = replay(job, plan, map, work);
+        if let (0, Some(last)) = (result.refusal, work.last_mut()) {
+            *last = 0;
+        }
+        result
+    }),
+    ("map beyond its need zero", |job, plan, map, work| {
+        let result = replay(job, plan, map, work);
+        if let (0, Some(last)) = (result.refusal, map.last_mut()) {
+            *last = 0;
+        }
+        result
+    }),
+    ("map left by a refused plan", |job, plan, map, work| {
+        let result = replay(job, plan, map, work);
+        if result.refusal >= 15 {
+            map[0] = 1;
+        }
+        result
+    }),
+    ("map zero after a bad job", |job, plan, map, work| {
+        let result = replay(job, plan, map, work);
+        if (1..=13).contains(&result.refusal) {
+            map.fill(0);
+        }
+        result
+    }),
+];
+
+fn differences(replay: Replay) -> u64 {
+    let mut pairs = Pairs::of(replay, SEED);
+    pairs.ask_jobs(JOBS);
+    pairs.comparison.tally.differences
+}
+
+#[test]
+fn every_fault_is_found_out() {
+    for (fault, replay) in FAULTY {
+        assert!(differences(replay) > 0, "not found out: {fault}");
+    }
+}
+
+#[test]
+fn the_second_replay_agrees_with_itself() {
+    assert_eq!(differences(replay), 0);
+}

@@ -1,0 +1,48 @@
+//! Generated jobs with their plans, good and damaged: the library's replay against
+//! the second one, by answer, map and work slice.
+//!
+//! `cargo test --release -- --nocapture` shows how often each kind of pair and each
+//! number came up.
+
+use std::time::Instant;
+
+use maizespell_tests::damage::plan::AIMED;
+use maizespell_tests::library::REPLAY;
+use maizespell_tests::pairs::{Pairs, Seen};
+use maizespell_tests::rules::view::Cause;
+
+const SEED: u64 = 90_210;
+const JOBS: u32 = 2_000;
+
+fn assert_often(seen: &Seen, what: &str, least: u64) {
+    let count = seen.count(what);
+    assert!(count >= least, "rare, {count} times: {what}");
+}
+
+#[test]
+fn generated_plans_get_the_answer_of_the_second_replay() {
+    let begin = Instant::now();
+    let mut pairs = Pairs::of(REPLAY, SEED);
+    pairs.ask_jobs(JOBS);
+    let (tally, seen) = (&pairs.comparison.tally, &pairs.seen);
+    println!("{seen}{tally}in {:?}", begin.elapsed());
+    tally.assert_same();
+    assert!(tally.pairs >= 20_000);
+    for number in (1..=18).filter(|number| *number != 14) {
+        let least = if number == 1 { 10 } else { 100 };
+        assert!(tally.hits[number] >= least, "refusal {number} is rare");
+    }
+    for number in [0, 12, 13, 15, 16, 17, 18] {
+        assert!(tally.hits[number] >= 1_000, "number {number} is rare");
+    }
+    for number in [12, 13, 15, 16, 17, 18] {
+        let places = tally.places[number].len();
+        assert!(places >= 100, "few places of {number}");
+    }
+    for (kind, _) in AIMED {
+        assert_often(seen, kind, 500);
+    }
+    for cause in Cause::ALL {
+        assert_often(seen, cause.name(), 50);
+    }
+}
