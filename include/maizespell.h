@@ -25,6 +25,26 @@ struct maizespell_sizing_result {
 /* Reads a job's bytes. */
 struct maizespell_sizing_result maizespell_sizing(const uint8_t *job, size_t job_len);
 
+/* What replay answers. Where the plan is accepted, refusal and place are 0. On a refusal every number but it
+ * and its place is 0: 1 to 11 are the job's, 12 and 13 say that the map or the work slice is short and give
+ * the need as place, 15 to 18 are the plan's with a bit position in the plan. */
+struct maizespell_replay_result {
+    uint64_t refusal;
+    uint64_t place;
+    uint64_t cost;
+    uint64_t added;     /* added steps: M - n for each extension */
+    uint64_t penalties; /* penalised segments */
+    uint64_t joined;    /* nets fully joined */
+};
+
+/* Reads a plan against a job. The needs are those that sizing gives: one map number for each vertex, and work.
+ * After a plan is accepted the needed part of the map holds 0 bare, 1 to 255 that net alone, 256 several nets,
+ * 257 obstacle; after 15 to 18 it is zero; the needed part of work is zero after both. After 1 to 13 both
+ * slices are as found, and so is what lies past their needs always. The slices must not overlap. */
+struct maizespell_replay_result maizespell_replay(const uint8_t *job, size_t job_len, const uint8_t *plan,
+                                                  size_t plan_len, uint16_t *map, size_t map_len,
+                                                  uint64_t *work, size_t work_len);
+
 #ifdef __cplusplus
 }
 #endif

@@ -26,9 +26,8 @@ pub struct ReplayResult {
     pub joined: u64,
 }
 
-/// The replay that the tests hold against the second one. The library has no
-/// replay yet, so the second one stands in; with it, this is `replay`.
-pub const REPLAY: Replay = crate::replay::replay;
+/// The replay that the tests hold against the second one.
+pub const REPLAY: Replay = replay;
 
 extern "C" {
     fn maizespell_sizing(job: *const u8, job_len: usize) -> SizingResult;
@@ -51,9 +50,7 @@ pub fn sizing(job: &[u8]) -> SizingResult {
     unsafe { maizespell_sizing(job.as_ptr(), job.len()) }
 }
 
-/// What the library says about this job and this plan. Nothing may use it, and so
-/// nothing links it, before the library has the call.
-#[allow(dead_code)]
+/// What the library says about this job and this plan.
 fn replay(job: &[u8], plan: &[u8], map: &mut [u16], work: &mut [u64]) -> ReplayResult {
     let (map_len, work_len) = (map.len(), work.len());
     // SAFETY: each pointer and its length are of one live slice; the call only

@@ -8,7 +8,7 @@
 pub mod Outcome
 pub mod Loaded
 mod Heads
-mod Lines
+pub mod Lines
 mod WholeTurns
 mod AfterHead
 mod LoadTurns

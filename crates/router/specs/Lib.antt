@@ -1,1 +1,3 @@
 pub mod Sizing
+pub mod Replay
+pub mod Held

@@ -1,2 +1,3 @@
 // The public calls. A host calls them with any bytes and slices of any length.
+pub mod replay_call;
 pub mod sizing;
