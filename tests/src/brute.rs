@@ -5,8 +5,10 @@
 //! and counts clear vertices one by one. It is slow, and meant for tiny grids.
 
 mod judge;
+mod records;
 
 pub use judge::Judged;
+pub use records::Checked;
 
 use std::collections::{BTreeSet, HashSet};
 

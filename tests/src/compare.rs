@@ -1,16 +1,16 @@
 //! The library's answer to sizing beside the second reader's, and a tally of
-//! refusals. Replay has its own, in `replay`.
+//! refusals. Replay and routing have their own, in `replay` and `routing`.
 
 pub mod replay;
+mod report;
+pub mod routing;
+mod tally;
 
 use std::collections::HashSet;
 use std::fmt;
 
 use crate::library::{self, SizingResult};
 use crate::sizing;
-
-/// Bytes of a job that a report shows at most.
-const SHOWN_BYTES: usize = 4_096;
 
 /// A job on which the two answers differ.
 #[derive(Debug)]
@@ -46,14 +46,7 @@ impl fmt::Display for Difference {
         writeln!(f, "the answers differ on a job: {}", self.kind)?;
         writeln!(f, "  expected {:?}", self.expected)?;
         writeln!(f, "  given    {:?}", self.given)?;
-        write!(f, "  {} bytes:", self.job.len())?;
-        for byte in self.job.iter().take(SHOWN_BYTES) {
-            write!(f, " {byte:02X}")?;
-        }
-        if self.job.len() > SHOWN_BYTES {
-            write!(f, " and more")?;
-        }
-        writeln!(f)
+        report::write_bytes(f, "job", &self.job)
     }
 }
 

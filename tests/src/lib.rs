@@ -4,10 +4,12 @@
 //! - Jobs are data (`job`), made by hand (`marked`, `largest`) or at random
 //!   (`generate`), and plans are too (`plan`, `wander`); `damage` makes both bad.
 //! - The second implementation reads jobs (`reader`, `sizing`), has the rules of
-//!   moves (`rules`) and nets (`joining`), routes (`router`) and replays (`replay`).
-//!   It is itself held against every short route (`brute`).
+//!   moves (`rules`) and nets (`joining`), searches joins (`router`) and has the calls
+//!   (`routing`, `replay`) and the program (`program`). It is itself held against
+//!   every short route (`brute`).
 //! - `library` has the library's calls, and `compare` asks both; `pairs` says which
-//!   jobs and plans replay is asked about.
+//!   jobs and plans replay is asked about, `lent` which jobs and slices routing is, and
+//!   `seen` what came up. `stack` makes the calls with little stack.
 
 pub mod bits;
 pub mod brute;
@@ -18,15 +20,20 @@ pub mod grid;
 pub mod job;
 pub mod joining;
 pub mod largest;
+pub mod lent;
 pub mod library;
 pub mod marked;
 pub mod pairs;
 pub mod places;
 pub mod plan;
+pub mod program;
 pub mod random;
 pub mod reader;
 pub mod replay;
 pub mod router;
+pub mod routing;
 pub mod rules;
+pub mod seen;
 pub mod sizing;
+pub mod stack;
 pub mod wander;

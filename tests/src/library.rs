@@ -1,6 +1,7 @@
 //! The library's calls, as `include/maizespell.h` declares them.
 
 use crate::replay::Replay;
+use crate::routing::Routing;
 
 /// Refusal 0 is none. A refusal leaves vertices and work 0; a good job leaves
 /// refusal and place 0.
@@ -26,8 +27,25 @@ pub struct ReplayResult {
     pub joined: u64,
 }
 
+/// Refusal 0 is none. A refusal leaves every number but it and its place 0; a
+/// routed job leaves refusal and place 0.
+#[repr(C)]
+#[derive(Clone, Copy, Debug, Default, PartialEq, Eq)]
+pub struct RoutingResult {
+    pub refusal: u64,
+    pub place: u64,
+    pub bytes: u64,
+    pub cost: u64,
+    pub added: u64,
+    pub penalties: u64,
+    pub joined: u64,
+}
+
 /// The replay that the tests hold against the second one.
 pub const REPLAY: Replay = replay;
+
+/// The routing that the tests hold against the second one.
+pub const ROUTING: Routing = routing;
 
 extern "C" {
     fn maizespell_sizing(job: *const u8, job_len: usize) -> SizingResult;
@@ -42,6 +60,17 @@ extern "C" {
         work: *mut u64,
         work_len: usize,
     ) -> ReplayResult;
+
+    fn maizespell_routing(
+        job: *const u8,
+        job_len: usize,
+        map: *mut u16,
+        map_len: usize,
+        work: *mut u64,
+        work_len: usize,
+        plan: *mut u8,
+        plan_len: usize,
+    ) -> RoutingResult;
 }
 
 /// What the library says about these bytes.
@@ -65,6 +94,25 @@ fn replay(job: &[u8], plan: &[u8], map: &mut [u16], work: &mut [u64]) -> ReplayR
             map_len,
             work.as_mut_ptr(),
             work_len,
+        )
+    }
+}
+
+/// What the library makes of this job.
+fn routing(job: &[u8], map: &mut [u16], work: &mut [u64], plan: &mut [u8]) -> RoutingResult {
+    let (map_len, work_len, plan_len) = (map.len(), work.len(), plan.len());
+    // SAFETY: each pointer and its length are of one live slice; the call only
+    // reads job, and map, work and plan are lent to it alone.
+    unsafe {
+        maizespell_routing(
+            job.as_ptr(),
+            job.len(),
+            map.as_mut_ptr(),
+            map_len,
+            work.as_mut_ptr(),
+            work_len,
+            plan.as_mut_ptr(),
+            plan_len,
         )
     }
 }

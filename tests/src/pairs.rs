@@ -2,10 +2,6 @@
 //! of the second router and plans that wander, damaged with an aim and without,
 //! bad jobs, and slices that are too short.
 
-mod seen;
-
-pub use seen::Seen;
-
 use crate::compare::replay::{Case, Comparison};
 use crate::damage::plan::shuffled::shuffled;
 use crate::damage::plan::{illegal_move, LegalPlan, AIMED};
@@ -19,6 +15,7 @@ use crate::reader::Refusal;
 use crate::replay::{refused, succeeded, Replay};
 use crate::router::{route, Routed};
 use crate::rules::board::Board;
+use crate::seen::Seen;
 use crate::wander::wandering_plan;
 
 /// Every so many jobs one is made too long.

@@ -4,6 +4,9 @@
 //! long as its numbers fit their fields.
 
 pub mod places;
+mod unpack;
+
+pub use unpack::unpack;
 
 use crate::bits::BitWriter;
 use crate::grid::Vertex;

@@ -20,24 +20,37 @@ pub fn replay(job: &[u8], plan: &[u8], map: &mut [u16], work: &mut [u64]) -> Rep
         Err(refusal) => return refused(refusal),
     };
     let board = Board::new(&job);
-    let (vertices, work_need) = (board.vertices(), board.work_need());
-    if map.len() < vertices {
-        return refused(at(12, vertices as u64));
-    }
-    if work.len() < work_need {
-        return refused(at(13, work_need as u64));
-    }
-    work[..work_need].fill(0);
+    let (map, work) = match needed(&board, map, work) {
+        Ok(parts) => parts,
+        Err(refusal) => return refused(refusal),
+    };
+    work.fill(0);
     match read_plan(&board, plan) {
         Ok(Joined { map: codes, totals }) => {
-            map[..vertices].copy_from_slice(&codes);
+            map.copy_from_slice(&codes);
             succeeded(totals)
         }
         Err(refusal) => {
-            map[..vertices].fill(0);
+            map.fill(0);
             refused(refusal)
         }
     }
+}
+
+/// The needed parts of map and work: 12 or 13 where one is short.
+pub fn needed<'s>(
+    board: &Board,
+    map: &'s mut [u16],
+    work: &'s mut [u64],
+) -> Result<(&'s mut [u16], &'s mut [u64]), Refusal> {
+    let (vertices, work_need) = (board.vertices(), board.work_need());
+    if map.len() < vertices {
+        return Err(at(12, vertices as u64));
+    }
+    if work.len() < work_need {
+        return Err(at(13, work_need as u64));
+    }
+    Ok((&mut map[..vertices], &mut work[..work_need]))
 }
 
 fn at(number: u64, place: u64) -> Refusal {

@@ -8,16 +8,11 @@ use std::time::Instant;
 
 use maizespell_tests::damage::plan::AIMED;
 use maizespell_tests::library::REPLAY;
-use maizespell_tests::pairs::{Pairs, Seen};
+use maizespell_tests::pairs::Pairs;
 use maizespell_tests::rules::view::Cause;
 
 const SEED: u64 = 90_210;
 const JOBS: u32 = 2_000;
-
-fn assert_often(seen: &Seen, what: &str, least: u64) {
-    let count = seen.count(what);
-    assert!(count >= least, "rare, {count} times: {what}");
-}
 
 #[test]
 fn generated_plans_get_the_answer_of_the_second_replay() {
@@ -27,7 +22,7 @@ fn generated_plans_get_the_answer_of_the_second_replay() {
     let (tally, seen) = (&pairs.comparison.tally, &pairs.seen);
     println!("{seen}{tally}in {:?}", begin.elapsed());
     tally.assert_same();
-    assert!(tally.pairs >= 20_000);
+    assert!(tally.asked >= 20_000);
     for number in (1..=18).filter(|number| *number != 14) {
         let least = if number == 1 { 10 } else { 100 };
         assert!(tally.hits[number] >= least, "refusal {number} is rare");
@@ -40,9 +35,9 @@ fn generated_plans_get_the_answer_of_the_second_replay() {
         assert!(places >= 100, "few places of {number}");
     }
     for (kind, _) in AIMED {
-        assert_often(seen, kind, 500);
+        seen.assert_often(kind, 500);
     }
     for cause in Cause::ALL {
-        assert_often(seen, cause.name(), 50);
+        seen.assert_often(cause.name(), 50);
     }
 }

@@ -3,30 +3,15 @@
 
 use maizespell_tests::grid::{vertex, Vertex};
 use maizespell_tests::job::{Job, CLOSED};
-use maizespell_tests::joining::{Joined, Totals};
+use maizespell_tests::joining::Joined;
 use maizespell_tests::marked;
+use maizespell_tests::marked::by_hand::{A_PLAN, COSTS, TOTALS};
 use maizespell_tests::plan::{pack, Record};
 use maizespell_tests::replay::read_plan;
 use maizespell_tests::router::{route, Routed};
 use maizespell_tests::rules::board::Board;
 use maizespell_tests::rules::metal::{BARE, SEVERAL};
 use maizespell_tests::rules::moves::Move::{self, Down, High, Low, Up};
-
-/// Costs of the joins of each marked job; None where there is none.
-const BY_HAND: [(char, &[Option<u64>]); 12] = [
-    ('A', &[Some(3)]),
-    ('B', &[Some(10)]),
-    ('C', &[Some(58)]),
-    ('D', &[None]),
-    ('E', &[Some(7)]),
-    ('F', &[Some(54)]),
-    ('G', &[None]),
-    ('H', &[Some(17)]),
-    ('I', &[Some(3), Some(7)]),
-    ('J', &[Some(13)]),
-    ('K', &[Some(2), Some(74)]),
-    ('L', &[Some(2), None]),
-];
 
 fn routed(job: &Job) -> Routed {
     route(&Board::new(job))
@@ -54,7 +39,7 @@ fn code(job: &Job, joined: &Joined, v: Vertex) -> u16 {
 
 #[test]
 fn marked_jobs_have_the_costs_found_by_hand() {
-    for ((letter, job), (_, by_hand)) in marked::all().into_iter().zip(BY_HAND) {
+    for ((letter, job), (_, by_hand)) in marked::all().into_iter().zip(COSTS) {
         assert_eq!(costs(&job), by_hand, "job {letter}");
     }
 }
@@ -71,10 +56,7 @@ fn plans_of_marked_jobs_are_replayed() {
 
 #[test]
 fn a_has_the_plan_of_the_document() {
-    let bytes = [
-        0x80, 0x00, 0x00, 0x00, 0x03, 0x54, 0x00, 0x00, 0x00, 0x00, 0x0C,
-    ];
-    assert_eq!(pack(&routed(&marked::a()).records), bytes);
+    assert_eq!(pack(&routed(&marked::a()).records), A_PLAN);
 }
 
 #[test]
@@ -86,26 +68,10 @@ fn b_and_h_have_the_moves_of_the_document() {
 }
 
 #[test]
-fn totals_of_marked_jobs() {
-    let totals = |job: &Job| {
-        let Totals {
-            cost,
-            added,
-            penalties,
-            joined,
-        } = routed(job).joined.totals;
-        (cost, added, penalties, joined)
-    };
-    assert_eq!(totals(&marked::a()), (3, 0, 0, 1));
-    assert_eq!(totals(&marked::b()), (10, 2, 0, 1));
-    assert_eq!(totals(&marked::c()), (58, 0, 1, 1));
-    assert_eq!(totals(&marked::d()), (0, 0, 0, 0));
-    assert_eq!(totals(&marked::e()), (7, 3, 0, 1));
-    assert_eq!(totals(&marked::f()), (54, 0, 1, 1));
-    assert_eq!(totals(&marked::h()), (17, 4, 0, 1));
-    assert_eq!(totals(&marked::i()), (10, 2, 0, 1));
-    assert_eq!(totals(&marked::k()), (76, 0, 1, 2));
-    assert_eq!(totals(&marked::l()), (2, 0, 0, 1));
+fn marked_jobs_have_the_totals_found_by_hand() {
+    for ((letter, job), (_, by_hand)) in marked::all().into_iter().zip(TOTALS) {
+        assert_eq!(routed(&job).joined.totals, by_hand, "job {letter}");
+    }
 }
 
 /// B's only overhead is that of its middle segment: one step, two added.

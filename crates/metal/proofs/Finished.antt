@@ -1,6 +1,7 @@
 -- The map at the end: codes of the metal, with the obstacles put in.
 --     obstacles-beyond     past its need the slice is as found
 --     obstacles-at         257 at an obstacle's mark, else the code that was there
+--     length-map           the map has a code for each vertex
 --     map-finished         it is the map of the job
 use Prim.Native.Nat.{ℕ, zero, suc, _+_, _≤_, _<_}
 use mathlib.Core.Path.{_≡_, refl, sym, ap, _∙_}
@@ -69,6 +70,11 @@ module _ (j : Job) (metal : List (List ℕ)) where
   unfolding codesBelow
   length-codes from zero = refl
   length-codes from (suc n) = ap suc (length-codes (suc from) n)
+
+  -- the map has a code for each vertex
+  pub length-map : length (mapOf j metal) ≡ vertices (j .grid)
+  unfolding mapOf
+  length-map = length-codes 0 (vertices (j .grid))
 
   -- one of them
   code-at : (from n i : ℕ) → i < n → getD (codesBelow j metal from n) i 0 ≡ mapCode j metal (from + i)

@@ -21,3 +21,12 @@ pub fn zero_words(work: &mut [u64], count: usize)
         work[word] = 0;
     }
 }
+
+pub fn zero_bytes(plan: &mut [u8], count: usize)
+    requires { ⌜ count ≤ length (now plan) ⌝ }
+    ensures { λ _. ⌜ now (plan .exit) ≡ zeroed count (now (plan .entry)) ⌝ }
+{
+    for byte in 0..count {
+        plan[byte] = 0;
+    }
+}

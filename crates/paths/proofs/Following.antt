@@ -4,6 +4,7 @@
 --     follow-none, follow-goal, follow-inf     nothing is followed with no move left, at a goal, and where the cost is infinite
 --     follow-step                              else the lowest move that keeps the cost, then the rest
 --     follow-take                              fewer moves are the first of more
+--     Onward, follow-onward                    where something is followed: the first move, and the rest
 --     Kept, kept                               in a table the lowest move that keeps a finite entry is legal, and what it leads to
 --     follow-rest                              with as many moves as the cost, following a table ends in a goal at the table's cost
 use Prim.Native.Nat.{ℕ, zero, suc, _+_, _≤_, _<_}
@@ -12,7 +13,7 @@ use mathlib.Core.Path.{_≡_, refl, sym, ap, fun-ext}
 use mathlib.Core.List.{List, [], _∷_}
 use mathlib.Core.Bool.{Bool, true, false, true≢false}
 use borrow.Author.Tests.{eqb-true, eq-eqb}
-use lib.ListN.{take}
+use lib.ListN.{length, take}
 use Rattle.paths.specs.Systems.{Step, blocked, to, System, Legal, Lawful}
 use Rattle.paths.specs.Distances.{Cost, fin, inf, through, isCost, onward, Table, keeps, lowestKeeping, moveOn, follow}
 use Rattle.paths.proofs.Costs.{within-only, through-fin}
@@ -101,6 +102,37 @@ module _ (S : System) (D : S .Place → Cost) where
           → take (suc k) (follow S D (suc j) s) ≡ follow S D (suc k) s
       by true g again = rw (follow-goal (suc j) g, follow-goal (suc k) g)
       by false g again = rw (follow-on j g, follow-on k g, moveOn-take s (D s) k) (ap (moveOn S D s (D s)) (fun-ext again))
+
+-- where something is followed: the entry is finite, the lowest move that keeps it leads on, and the rest follows
+pub record Onward (S : System) (D : S .Place → Cost) (k : ℕ) (s : S .Place) : Type 0 where
+  pub cost : ℕ
+  pub price : ℕ
+  pub next : S .Place
+  pub left : ℕ
+  pub entry : D s ≡ fin cost
+  pub leads : S .step s (lowestKeeping S D s cost) ≡ to price next
+  pub follows : follow S D k s ≡ lowestKeeping S D s cost ∷ follow S D left next
+
+pub follow-onward : (S : System) (D : S .Place → Cost) (k : ℕ) (s : S .Place) → 0 < length (follow S D k s) → Onward S D k s
+unfolding moveOn onward
+follow-onward S D zero s some = absurd (omega (arith, some, ap (λ (l : List ℕ). length l) (follow-none S D s)))
+follow-onward S D (suc k) s some = byGoal (S .goal s) refl
+  where
+    nothing : follow S D (suc k) s ≡ [] → ⊥
+    nothing e = omega (arith, some, ap (λ (l : List ℕ). length l) e)
+
+    byStep : (c : ℕ) → S .goal s ≡ false → D s ≡ fin c → (x : Step (S .Place)) → S .step s (lowestKeeping S D s c) ≡ x → Onward S D (suc k) s
+    byStep c g e blocked leads = absurd (nothing (rw (follow-on S D k g, e, leads)))
+    byStep c g e (to p t) leads =
+        record { cost = c; price = p; next = t; left = k; entry = e; leads = leads; follows = follow-step S D k g e leads }
+
+    byCost : S .goal s ≡ false → (c : Cost) → D s ≡ c → Onward S D (suc k) s
+    byCost g inf e = absurd (nothing (follow-inf S D (suc k) g e))
+    byCost g (fin c) e = byStep c g e (S .step s (lowestKeeping S D s c)) refl
+
+    byGoal : (b : Bool) → S .goal s ≡ b → Onward S D (suc k) s
+    byGoal true g = absurd (nothing (follow-goal S D (suc k) g))
+    byGoal false g = byCost g (D s) refl
 
 -- ---- following a table
 

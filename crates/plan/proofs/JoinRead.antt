@@ -29,11 +29,10 @@ use Rattle.rules.specs.Tracks.{layerOf, rowOf, columnOf, vertexBy}
 use Rattle.rules.specs.Views.{member, viewOf}
 use Rattle.rules.specs.Prices.{techOf}
 use Rattle.rules.specs.Walks.{walked, startAt}
-use Rattle.rules.specs.Standings.{Standing, joinedBy}
+use Rattle.rules.specs.Standings.{Standing, joinedBy, Stands}
 use Rattle.rules.proofs.Vertices.{number-vertex, vertex-number, vertex-below}
 use Rattle.rules.proofs.Techs.{good-tech}
 use Rattle.rules.proofs.Walks.{route-walk}
-use Rattle.rules.proofs.Standing.{Stands}
 use Rattle.plan.specs.Reading.{JoinRead, readJoin}
 use Rattle.plan.specs.Legal.{LegalJoin}
 use Rattle.plan.proofs.Moves.{field-placed, moves-good, route-some, route-read}

@@ -2,7 +2,6 @@
 --     field-placed          a field stands there and fits, where it is whole and holds its number
 --     agree-holds           two tests agree
 --     judged-good           a move that is judged good
---     First, walk-first     a walk taken apart after its first move
 --     MovesAt               the bits, the number, the walk and the route of moves that were read
 --     moves-good            moves that are read as good
 --     route-some            a route has a move
@@ -29,9 +28,9 @@ use Rattle.rules.specs.Views.{View, member}
 use Rattle.rules.specs.Segments.{Place}
 use Rattle.rules.specs.Prices.{Tech}
 use Rattle.rules.specs.Steps.{Made, Stepped, illegal, legal, step, priced}
-use Rattle.rules.specs.Walks.{system, Walked, stuck, walked, Sum, nothingYet, withMade, after, goOn, walk}
+use Rattle.rules.specs.Walks.{system, walked, Sum, nothingYet, withMade, walk}
 use Rattle.rules.proofs.Members.{not-both}
-use Rattle.rules.proofs.Walks.{walk-on}
+use Rattle.rules.proofs.Walks.{walk-on, walk-first}
 use Rattle.plan.specs.Reading.{Moved, withMove, agree, judged, readMoves}
 
 -- ---- a field
@@ -76,34 +75,6 @@ judged-good at last unjoined illegal made = (
 )
 judged-good at last unjoined (legal m) made =
     simp (steps, agree-holds) (λ (h, e). (ap legal e, rw e at h), λ (e, h). let same : m ≡ made = cc in (rw same h, same))
-
--- a walk after its first move
-pub record First (t : Tech) (view : View) (p : Place) (m : ℕ) (ms : List ℕ) (last : Place) (sum : Sum) : Type 0 where
-  pub made : Made
-  pub rest : Sum
-  pub is : step t view p m ≡ legal made
-  pub goes : walk t view (made .next) ms ≡ walked last rest
-  pub sums : sum ≡ withMade made rest
-
--- a walk taken apart
-pub walk-first : (t : Tech) (view : View) (p : Place) (m : ℕ) (ms : List ℕ) {last : Place} {sum : Sum} → walk t view p (m ∷ ms) ≡ walked last sum
-    → First t view p m ms last sum
-unfolding walk goOn after
-walk-first t view p m ms {last} {sum} e = by (step t view p m) refl e
-  where
-    not-stuck : stuck ≡ walked last sum → ⊥
-    not-stuck h = let z : _≡_ {A = ℕ} 0 1 = cc in omega arith
-
-    on : (made : Made) → step t view p m ≡ legal made → (w : Walked) → walk t view (made .next) ms ≡ w → after made w ≡ walked last sum
-        → First t view p m ms last sum
-    on made is stuck goes h = absurd (not-stuck h)
-    on made is (walked l s) goes h =
-        let same : l ≡ last = cc in
-        record { made = made; rest = s; is = is; goes = rw same at goes; sums = cc }
-
-    by : (s : Stepped) → step t view p m ≡ s → goOn (λ q. walk t view q ms) s ≡ walked last sum → First t view p m ms last sum
-    by illegal is h = absurd (not-stuck h)
-    by (legal made) is h = on made is (walk t view (made .next) ms) refl h
 
 -- ---- all moves
 

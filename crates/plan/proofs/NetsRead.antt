@@ -1,5 +1,5 @@
 -- Reading the records of nets: good exactly where their bits stand there and they are a net's, or all nets', entries.
---     entryBits                        the bits of entries
+--     entries-append                   the bits of two lists of entries
 --     legal-apart, legal-fewer         after a legal join the tree and the unjoined pins are apart, and fewer pins are unjoined
 --     NetAt, net-good                  the records of a net that are read as good
 --     netTotals, readTo, net-read      the entries of a net are read, with the totals after them
@@ -10,7 +10,7 @@ use native.Mathlib.Nat.{add-zero}
 use native.Mathlib.Omega.{arith}
 use mathlib.Core.Path.{_≡_, refl, sym, ap, subst, _∙_}
 use mathlib.Core.Logic.{_↔_, _⊎_, inl, inr, Iff·rfl}
-use mathlib.Core.List.{List, [], _∷_, _++_, append-assoc, map}
+use mathlib.Core.List.{List, [], _∷_, _++_, append-assoc}
 use lib.ListN.{length, length-append}
 use lib.Dec.{T}
 use Rattle.bits.specs.Bits.{field, whole, fieldBits, AllBelow}
@@ -25,12 +25,12 @@ use Rattle.job.proofs.Binds.{steps, rule-good, then-good, bind-good}
 use Rattle.job.proofs.TwoWay.Places.{Placed, placed-nil, placed-append}
 use Rattle.rules.specs.Views.{pinsOf}
 use Rattle.rules.specs.Prices.{techOf}
-use Rattle.rules.specs.Standings.{Standing, begun, joinedBy}
+use Rattle.rules.specs.Standings.{Standing, begun, joinedBy, Stands}
 use Rattle.rules.specs.Joins.{join, none}
 use Rattle.rules.specs.Routings.{Entry, Totals, withJoin, withNet}
 use Rattle.rules.proofs.Techs.{good-tech}
-use Rattle.rules.proofs.Standing.{Stands, joined-apart}
-use Rattle.plan.specs.Layout.{recordBits}
+use Rattle.rules.proofs.Standing.{joined-apart}
+use Rattle.plan.specs.Layout.{recordBits, entryBits}
 use Rattle.plan.specs.Reading.{group, JoinRead, Progress, before, readJoin, byFlag, unlessJoined, readNet, readNets}
 use Rattle.plan.specs.Legal.{LegalJoin, NetEntries, allJoined, gaveUp, joins, JobEntries, noNets, nextNet}
 use Rattle.plan.proofs.Unjoined.{without-shorter, none-left, begun-length}
@@ -39,12 +39,8 @@ use Rattle.plan.proofs.JoinRead.{joinFields, joinBits, JoinAt, join-goo
 
 -- ---- bits
 
--- the bits of entries
-abbrev pub entryBits : Grid → List Entry → List ℕ
-entryBits g es = concatBits (recordBits g) (map (λ (e : Entry). e .written) es)
-
--- those of two lists
-entries-append : (g : Grid) (xs ys : List Entry) → entryBits g (xs ++ ys) ≡ entryBits g xs ++ entryBits g ys
+-- the bits of two lists of entries
+pub entries-append : (g : Grid) (xs ys : List Entry) → entryBits g (xs ++ ys) ≡ entryBits g xs ++ entryBits g ys
 unfolding concatBits
 entries-append g [] ys = refl
 entries-append g (x ∷ xs) ys = rw (entries-append g xs ys, append-assoc)

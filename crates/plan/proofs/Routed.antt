@@ -16,13 +16,13 @@ use Rattle.job.specs.Reading.{good}
 use Rattle.rules.specs.Views.{pinsOf, viewOf}
 use Rattle.rules.specs.Prices.{techOf}
 use Rattle.rules.specs.Joins.{Record, join, none, joinOf}
-use Rattle.rules.specs.Standings.{Standing, metalAtFirst, begun, joinedBy}
+use Rattle.rules.specs.Standings.{Standing, metalAtFirst, begun, joinedBy, Stands}
 use Rattle.rules.specs.Routings.{Totals, noTotals, withJoin, withNet, Routed, withEntry, afterJoin, byRecord, routeNet, routeNets, routing}
 use Rattle.rules.specs.Places.{GoodTech}
 use Rattle.rules.proofs.Techs.{good-tech}
 use Rattle.rules.proofs.Walks.{route-walk}
 use Rattle.rules.proofs.Joins.{join-route, join-fits}
-use Rattle.rules.proofs.Standing.{Stands, nets-apart, joined-apart}
+use Rattle.rules.proofs.Standing.{nets-apart, joined-apart}
 use Rattle.plan.specs.Layout.{planOf}
 use Rattle.plan.specs.Reading.{readPlan}
 use Rattle.plan.specs.Legal.{NetEntries, allJoined, gaveUp, joins, JobEntries, noNets, nextNet, LegalPlan}

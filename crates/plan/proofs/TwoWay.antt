@@ -1,4 +1,5 @@
 -- Reading a plan against a good job accepts exactly the legal plans.
+--     entries-below               the bits of entries are bits
 --     plan-below                  a plan's bytes are below 256
 --     plan-legal                  a plan that is read is legal, with the entries that are read
 --     madeBy, plan-read           a legal plan is read, with its entries and the metal and the totals after them
@@ -23,10 +24,10 @@ use Rattle.rules.specs.Standings.{metalAtFirst}
 use Rattle.rules.specs.Joins.{Record, join, none}
 use Rattle.rules.specs.Routings.{Entry, noTotals, Routed}
 use Rattle.rules.proofs.Standing.{nets-apart}
-use Rattle.plan.specs.Layout.{recordBits, planBytes}
+use Rattle.plan.specs.Layout.{recordBits, planBytes, entryBits}
 use Rattle.plan.specs.Reading.{Progress, readPlan}
 use Rattle.plan.specs.Legal.{LegalPlan}
-use Rattle.plan.proofs.NetsRead.{entryBits, NetsAt, nets-good, jobMetal, jobTotals, nets-read}
+use Rattle.plan.proofs.NetsRead.{NetsAt, nets-good, jobMetal, jobTotals, nets-read}
 
 -- each of a record's bits is 0 or 1
 record-below : (g : Grid) (r : Record) → AllBelow 2 (recordBits g r)
@@ -36,7 +37,7 @@ record-below g (join start moves cost) =
     below-append 2 _ _ (group-below _) (below-append 2 _ _ (concat-below (fieldBits 2) (fieldBits-bits 2) moves) (fieldBits-bits 40 cost))
 
 -- and each of the bits of entries
-entries-below : (g : Grid) (es : List Entry) → AllBelow 2 (entryBits g es)
+pub entries-below : (g : Grid) (es : List Entry) → AllBelow 2 (entryBits g es)
 entries-below g es = concat-below (recordBits g) (record-below g) (map (λ (e : Entry). e .written) es)
 
 -- so the bytes that they are packed to are bytes

@@ -17,6 +17,10 @@ recordBits g (join start moves cost) =
     groupBits ((1, 1) ∷ (3, layerOf g start) ∷ (8, rowOf g start) ∷ (8, columnOf g start) ∷ (20, length moves) ∷ [])
     ++ (concatBits (fieldBits 2) moves ++ fieldBits 40 cost)
 
+-- the bits of entries, one after the other
+abbrev pub entryBits : Grid → List Entry → List ℕ
+entryBits g es = concatBits (recordBits g) (map (λ (e : Entry). e .written) es)
+
 unfoldable pub planBytes : Grid → List Record → List ℕ
 planBytes g records = packBits (concatBits (recordBits g) records)
 

@@ -6,9 +6,10 @@
 --     follow-with               the definition adds to what was read
 --     then-assoc                a rule before a reading and what follows that
 use Prim.Native.Nat.{ℕ}
-use mathlib.Core.Path.{_≡_, refl, ap, _∙_}
+use mathlib.Core.Path.{_≡_, refl, ap}
 use Rattle.job.specs.Reading.{Read, refused, good, _>>=_, _>>_}
-use Rattle.replay.specs.Following.{Arrays, Came, came, stopped, andOn, andRead}
+use Rattle.walker.specs.Entering.{Arrays}
+use Rattle.replay.specs.Following.{Came, came, stopped, andOn, andRead}
 
 -- both refuse by the same number at the same place; or both are good, and what they read and the arrays meet
 pub data Follow {A B : Type 0} (Meets : A → B → Arrays → Type 0) : Read A → Came B → Type 0 where

@@ -2,39 +2,36 @@
 --     JoinMeet       what the two readings have in common
 --     join-follow    the law
 use Prim.Native.Nat.{ℕ, suc, _+_, _*_, _≤_, _<_}
-use mathlib.Core.Path.{_≡_, refl, sym, ap, subst, _∙_}
-use mathlib.Core.List.{List, [], _∷_, _++_, append-nil}
-use mathlib.Core.Bool.{Bool, true, false, _&&_, _||_, or-true}
-use native.Mathlib.Omega.{arith}
+use mathlib.Core.Path.{_≡_, refl, sym, subst, _∙_}
+use mathlib.Core.List.{List, _++_, append-nil}
+use mathlib.Core.Bool.{Bool, true, false, _&&_}
 use lib.ListN.{length, getD}
-use lib.Dec.{T, leb, eqb, leb→le}
-use borrow.Author.Tests.{leb-true, eq-eqb}
-use Rattle.bits.specs.Bits.{field, whole, AllBelow}
+use lib.Dec.{T, leb, eqb}
+use Rattle.bits.specs.Bits.{field, AllBelow}
 use Rattle.job.specs.Grid.{Grid, vertices, vertexNumber, inside}
 use Rattle.job.specs.Job.{Job}
 use Rattle.job.specs.Good.{GoodJob}
-use Rattle.job.specs.Reading.{Read, refused, good, _>>=_, _>>_, rule, vertexAt}
+use Rattle.job.specs.Reading.{Read, good, _>>=_, _>>_, rule, vertexAt}
 use Rattle.job.proofs.Tests.{tests}
 use Rattle.job.proofs.Binds.{steps}
 use Rattle.job.proofs.Grids.{number-below}
-use Rattle.rules.specs.Views.{View, member, viewOf}
-use Rattle.rules.specs.Segments.{paid}
+use Rattle.rules.specs.Views.{member, viewOf}
 use Rattle.rules.specs.Prices.{techOf}
 use Rattle.rules.specs.Places.{GoodSegment, GoodPlace}
 use Rattle.rules.specs.Walks.{Sum, nothingYet, startAt, walked}
-use Rattle.rules.specs.Standings.{Standing, joinedBy}
+use Rattle.rules.specs.Standings.{Standing, joinedBy, Stands}
 use Rattle.rules.proofs.Techs.{good-tech}
 use Rattle.rules.proofs.Walks.{route-walk}
-use Rattle.rules.proofs.Standing.{Stands}
-use Rattle.rules.proofs.Members.{member-one, member-both}
 use Rattle.plan.specs.Reading.{group, Moved, JoinRead, readMoves, readJoin}
 use Rattle.plan.proofs.Moves.{moves-good}
 use Rattle.tree.specs.Spots.{Spots}
 use Rattle.tree.proofs.Marked.{spot-tree}
-use Rattle.replay.specs.Following.{Arrays, came, andOn, andRead, Gone, goneAt, movesFrom, Start, readStart, readCost, Joined, costFrom, joinFrom}
+use Rattle.walker.specs.Entering.{Arrays, goneAt}
+use Rattle.walker.specs.Standing.{Stood}
+use Rattle.walker.proofs.Sums.{nothing-plus}
+use Rattle.walker.proofs.Standing.{walkedBy, stood-begun, stood-joined, end-entered}
+use Rattle.replay.specs.Following.{movesFrom, Start, readStart, readCost, Joined, costFrom, joinFrom}
 use Rattle.replay.proofs.Follow.{Follow, bothGood, then-assoc, follow-on, follow-read}
-use Rattle.replay.proofs.Sums.{plusSum, nothing-plus}
-use Rattle.replay.proofs.Stood.{Stood, walkedBy, stood-begun, stood-joined}
 use Rattle.replay.proofs.MovesFollow.{moves-follow}
 
 -- both have the same join, and the arrays stand for what it leaves
@@ -65,13 +62,7 @@ module _ (B : List ℕ) (bits : AllBelow 2 B) {j : Job} (good-j : GoodJob j) (k 
       let is : walked (w .last) (w .sum) ≡ walked (moved .last) (moved .sum) = sym (w .does) ∙ m .walks in
       let place : w .last ≡ moved .last = cc in
       let all : w .sum ≡ moved .sum = cc in
-      rw (place, all) at (there (w .last .vertex) (w .way) (w .enters))
-    where
-      there : (v : ℕ) (way : List ℕ) {vs : List ℕ} → vs ≡ way ++ (v ∷ []) → member v (s .tree ++ vs) ≡ true
-      there v way {vs} e =
-          let here : member v (v ∷ []) ≡ true = member-one v in
-          member-both v (s .tree) vs ∙ ap (λ (b : Bool). member v (s .tree) || b)
-          (ap (member v) e ∙ member-both v way (v ∷ []) ∙ ap (λ (b : Bool). member v way || b) here ∙ or-true (member v way)) ∙ or-true (member v (s .tree))
+      rw (place, all) at (end-entered (w .last .vertex) (s .tree) (w .way) (w .enters))
 
   -- a join's start is a good place
   start-good : (v : ℕ) → v < vertices (j .grid) → GoodPlace (techOf j) (startAt v)

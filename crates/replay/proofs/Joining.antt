@@ -8,12 +8,10 @@
 use Prim.Native.Nat.{ℕ, _+_, _*_, _^_, _≤_, _<_}
 use mathlib.Core.Path.{_≡_, refl, sym, ap, _∙_}
 use mathlib.Core.List.{List}
-use mathlib.Core.Bool.{Bool, true, false, _&&_}
 use native.Mathlib.Omega.{arith}
-use lib.Dec.{T}
-use Rattle.bits.specs.Bits.{bitsOf, field, AllBelow}
+use Rattle.bits.specs.Bits.{field, AllBelow}
 use Rattle.bits.proofs.Laws.{field-below}
-use Rattle.job.specs.Grid.{Grid, vertices, vertexNumber, inside}
+use Rattle.job.specs.Grid.{Grid, vertices, vertexNumber}
 use Rattle.job.specs.Reading.{Read, refused, good, vertexAt}
 use Rattle.job.proofs.Tests.{tests}
 use Rattle.job.proofs.Binds.{steps}
@@ -21,9 +19,11 @@ use Rattle.job.proofs.Grids.{number-below}
 use Rattle.rules.specs.Views.{View}
 use Rattle.rules.specs.Prices.{Tech}
 use Rattle.marks.specs.declared.reached.Reached.{Reached}
-use Rattle.replay.specs.Following.{Arrays, Came, came, stopped, andOn, andRead, arraysOf, Gone, goneAt, movesFrom, Start, readStart, readCost, Joined, costFrom, joinFrom}
-use Rattle.replay.specs.Structs.{startRead, costRead, IsWalk, IsMoves, IsJoin, JoinFits}
-use Rattle.replay.specs.declared.moves.Walk.{Walk}
+use Rattle.walker.specs.Entering.{Arrays, Gone, goneAt}
+use Rattle.walker.specs.Structs.{IsWalk}
+use Rattle.walker.specs.declared.Walk.{Walk}
+use Rattle.replay.specs.Following.{Came, came, stopped, andOn, andRead, arraysOf, movesFrom, Start, readStart, readCost, Joined, costFrom, joinFrom}
+use Rattle.replay.specs.Structs.{startRead, costRead, IsMoves, IsJoin, JoinFits}
 use Rattle.replay.specs.declared.moves.MovesRead.{MovesRead}
 use Rattle.replay.specs.declared.join.JoinRead.{JoinRead}
 use Rattle.replay.specs.declared.join.JoinRead.the-variants as Join

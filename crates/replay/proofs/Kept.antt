@@ -1,12 +1,11 @@
 -- Past the grid the map is as found.
 --     moves-kept, join-kept, net-kept     while moves, a join, the records of a net are read
-use Prim.Native.Nat.{ℕ, zero, suc, _+_, _*_, _<_}
-use mathlib.Core.Path.{_≡_, refl, sym, ap, subst, _∙_}
-use mathlib.Core.List.{List, [], _∷_, _++_}
+use Prim.Native.Nat.{ℕ, zero, suc, _+_, _*_}
+use mathlib.Core.Path.{_≡_, refl, ap}
+use mathlib.Core.List.{List}
 use mathlib.Core.Bool.{Bool, true, false, cond}
 use lib.Dec.{eqb}
 use Rattle.bits.specs.Bits.{field, AllBelow}
-use Rattle.job.specs.Lists.{All}
 use Rattle.job.specs.Grid.{vertices}
 use Rattle.job.specs.Reading.{Read, refused, good}
 use Rattle.rules.specs.Views.{View}
@@ -15,15 +14,15 @@ use Rattle.rules.specs.Places.{GoodTech, GoodPlace}
 use Rattle.rules.specs.Steps.{Made}
 use Rattle.rules.specs.Routings.{Totals, withJoin, withNet}
 use Rattle.rules.proofs.Places.{start-good}
-use Rattle.rules.proofs.Laid.{all-append}
 use Rattle.plan.specs.Reading.{group}
 use Rattle.metal.specs.Codes.{Beyond}
 use Rattle.metal.proofs.Slices.{beyond-refl, beyond-trans}
-use Rattle.metal.proofs.Laid.{laid-beyond}
 use Rattle.tree.specs.Spots.{someUnjoined}
-use Rattle.replay.specs.Following.{Arrays, Came, came, stopped, andOn, andRead, arraysOf, judgedMove, enterBy, Gone, goneAt, goneOn, movesFrom, Start, readStart, Joined, costFrom, joinFrom, Ended, byFlag, netFrom}
+use Rattle.walker.specs.Entering.{Arrays, enterBy, Gone, goneAt, goneOn}
+use Rattle.walker.proofs.Landing.{step-lands}
+use Rattle.walker.proofs.Entering.{enter-kept}
+use Rattle.replay.specs.Following.{Came, came, stopped, andOn, andRead, arraysOf, judgedMove, movesFrom, Start, readStart, Joined, costFrom, joinFrom, Ended, byFlag, netFrom}
 use Rattle.replay.specs.Structs.{startRead}
-use Rattle.replay.proofs.MovesFollow.{step-lands}
 use Rattle.replay.proofs.Parts.{judged-step}
 use Rattle.replay.proofs.Joining.{cost-arrays, start-bounds}
 
@@ -34,7 +33,7 @@ module _ (bits : List ℕ) (below : AllBelow 2 bits) {t : Tech} (view : View) (n
 
   -- while moves are read
   moves-kept : (n at : ℕ) (gone : Gone) (arrays : Arrays) → GoodPlace t (gone .place) → Keeps arrays (movesFrom bits t view net n at gone arrays)
-  unfolding movesFrom andRead arraysOf goneOn enterBy All
+  unfolding movesFrom andRead arraysOf goneOn
   moves-kept zero at gone arrays on = beyond-refl _ _
   moves-kept (suc n) at gone arrays on =
       by (judgedMove bits t view (arrays .spots) (eqb n 0) at (gone .place)) refl (λ made. moves-kept n (at + 2) (goneOn gone made) (enterBy net made arrays))
@@ -46,10 +45,7 @@ module _ (bits : List ℕ) (below : AllBelow 2 bits) {t : Tech} (view : View) (n
       by (refused a b) e rest = beyond-refl _ _
       by (good made) e rest =
           let lands = step-lands view (gone .place) (field bits at 2) good-t on (judged-step bits t view (arrays .spots) (eqb n 0) at (gone .place) e) in
-          let w = made .next .vertex in
-          beyond-trans (rest made (lands .place))
-          (laid-beyond (vertices (t .grid)) net (made .laid ++ (w ∷ [])) (arrays .codes)
-          (all-append (λ v. v < vertices (t .grid)) (made .laid) (w ∷ []) (lands .laid) (lands .place .vertex, tt)))
+          beyond-trans (rest made (lands .place)) (enter-kept net made arrays lands)
 
   -- while a join is read
   pub join-kept : (at : ℕ) (arrays : Arrays) → Keeps arrays (joinFrom bits t view net at arrays)

@@ -1,8 +1,4 @@
 -- The laws of reading a plan with what stands in arrays.
---     Sums      the sum of a join's moves, from the front and from the back
---     Stood     what the arrays stand for
-pub mod Sums
-pub mod Stood
 pub mod Follow
 pub mod MovesFollow
 pub mod JoinFollow

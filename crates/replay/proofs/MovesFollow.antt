@@ -8,54 +8,36 @@ use mathlib.Core.Logic.{_⊎_, inl, inr}
 use mathlib.Core.List.{List, [], _∷_, _++_}
 use mathlib.Core.Bool.{Bool, true, false, _||_, or-true}
 use native.Mathlib.Omega.{arith}
-use lib.ListN.{length, getD}
-use lib.Dec.{T, eqb}
+use lib.ListN.{length}
+use lib.Dec.{eqb}
 use borrow.Author.Tests.{ne-eqb}
-use Rattle.bits.specs.Bits.{field, whole}
-use Rattle.job.specs.Lists.{All}
-use Rattle.job.specs.Grid.{Grid, vertices}
+use Rattle.bits.specs.Bits.{field}
+use Rattle.job.specs.Grid.{vertices}
 use Rattle.job.specs.Reading.{good, _>>=_, _>>_, rule}
 use Rattle.job.proofs.Binds.{then-good}
 use Rattle.rules.specs.Views.{View, member}
 use Rattle.rules.specs.Segments.{Place}
 use Rattle.rules.specs.Prices.{Tech}
 use Rattle.rules.specs.Places.{GoodTech, GoodPlace}
-use Rattle.rules.specs.Steps.{Made, Stepped, illegal, legal, step, priced}
-use Rattle.rules.specs.Walks.{Sum, nothingYet, withMade}
+use Rattle.rules.specs.Steps.{Made, Stepped, illegal, legal, step}
+use Rattle.rules.specs.Walks.{Sum}
 use Rattle.rules.specs.Standings.{Standing}
-use Rattle.rules.proofs.Laid.{Free, step-free}
-use Rattle.rules.proofs.Moves.{step-keeps}
 use Rattle.rules.proofs.Members.{member-append, member-both, member-here}
 use Rattle.plan.specs.Reading.{group, agree, Moved, withMove, judged, readMoves}
 use Rattle.plan.proofs.Moves.{judged-good}
 use Rattle.tree.specs.Spots.{Spots}
 use Rattle.tree.proofs.Marked.{spot-goal}
-use Rattle.replay.specs.Following.{Arrays, judgedBy, judgedMove, enterBy, Gone, thenMade, goneOn, movesFrom}
+use Rattle.walker.specs.Entering.{Arrays, enterBy, Gone, thenMade, goneOn}
+use Rattle.walker.specs.Standing.{Stood}
+use Rattle.walker.proofs.Sums.{plusSum, then-sum, plus-nothing}
+use Rattle.walker.proofs.Standing.{walkedBy, stood-entered}
+use Rattle.walker.proofs.Landing.{Lands, step-lands}
+use Rattle.replay.specs.Following.{judgedBy, judgedMove, movesFrom}
 use Rattle.replay.proofs.Follow.{Follow, bothGood, then-assoc, follow-meets, follow-with, follow-read}
-use Rattle.replay.proofs.Sums.{plusSum, then-sum, plus-nothing}
-use Rattle.replay.proofs.Stood.{Stood, walkedBy, stood-entered}
 
 -- no vertex of the tree is an unjoined pin
 abbrev pub Apart : (tree unjoined : List ℕ) → Type 0
 Apart tree unjoined = (v : ℕ) → member v tree ≡ true → member v unjoined ≡ false
-
--- a legal move from a good place leads to a vertex of the grid, and what it lays is of the grid
-pub record Lands (t : Tech) (made : Made) : Type 0 where
-  pub place : GoodPlace t (made .next)
-  pub laid : All (λ v. v < vertices (t .grid)) (made .laid)
-
-free-below : (g : Grid) (view : View) (vs : List ℕ) → All (Free g view) vs → All (λ v. v < vertices g) vs
-unfolding All
-free-below g view [] h = tt
-free-below g view (v ∷ vs) h = (h .0 .onGrid, free-below g view vs (h .1))
-
-pub step-lands : {t : Tech} (view : View) (p : Place) (m : ℕ) {made : Made} → GoodTech t → GoodPlace t p → step t view p m ≡ legal made → Lands t made
-unfolding priced
-step-lands {t} view p m good-t on e =
-    record {
-      place = step-keeps view p m good-t on (ap priced e);
-      laid = free-below (t .grid) view _ (step-free t view p m (on .vertex) e);
-    }
 
 module _ (bits : List ℕ) {t : Tech} (view : View) (good-t : GoodTech t) where
   -- a move is judged by its byte as by the unjoined pins

@@ -1,76 +1,41 @@
 -- Reading the records of a net with arrays comes to what reading them by the definition comes to.
---     AtNet          what is known before each record of a net
 --     NetMeet        what the two readings have in common
 --     net-follow     the law
 use Prim.Native.Nat.{ℕ, zero, suc, _+_, _<_}
-use mathlib.Core.Path.{_≡_, refl, sym, ap, subst, _∙_}
-use mathlib.Core.List.{List, []}
+use mathlib.Core.Path.{_≡_, refl, sym, subst}
+use mathlib.Core.List.{List}
 use mathlib.Core.Bool.{Bool, true, false}
-use native.Mathlib.Omega.{arith}
-use lib.ListN.{length}
 use Rattle.bits.specs.Bits.{field, AllBelow}
 use Rattle.job.specs.Lists.{All}
 use Rattle.job.specs.Grid.{Grid, vertices}
 use Rattle.job.specs.Job.{Job}
 use Rattle.job.specs.Good.{GoodJob}
-use Rattle.job.specs.Reading.{Read, good, _>>=_, _>>_}
-use Rattle.rules.specs.Views.{View, member, viewOf}
+use Rattle.job.specs.Reading.{good, _>>=_}
+use Rattle.rules.specs.Views.{View}
 use Rattle.rules.specs.Prices.{techOf}
-use Rattle.rules.specs.Standings.{Standing, without, more, joinedBy}
+use Rattle.rules.specs.Standings.{Standing, joinedBy}
 use Rattle.rules.specs.Joins.{join}
-use Rattle.rules.specs.Routings.{Totals, withJoin, withNet}
-use Rattle.rules.proofs.Own.{view-own}
-use Rattle.rules.proofs.Standing.{Stands}
-use Rattle.rules.proofs.Members.{not-both, without-less}
-use Rattle.plan.specs.Reading.{group, Progress, before, JoinRead, readJoin, byFlag, unlessJoined, readNet}
+use Rattle.rules.specs.Routings.{Totals, withJoin}
+use Rattle.plan.specs.Reading.{group, Progress, before, readJoin, byFlag, unlessJoined, readNet}
 use Rattle.plan.proofs.JoinRead.{join-good}
 use Rattle.plan.proofs.NetsRead.{legal-apart, unless-some}
 use Rattle.metal.specs.Codes.{Codes}
 use Rattle.tree.specs.Spots.{someUnjoined}
 use Rattle.tree.proofs.Marked.{some-none, some-one}
 use Rattle.replay.specs.Following as Code
-use Rattle.replay.specs.Following.{Arrays, Came, came, andOn, andRead, Joined, joinFrom, Ended, netFrom}
+use Rattle.walker.specs.Entering.{Arrays}
+use Rattle.walker.specs.Standing.{AtNet}
+use Rattle.walker.proofs.Standing.{net-joined}
+use Rattle.replay.specs.Following.{came, andOn, joinFrom, Ended, netFrom}
 use Rattle.replay.proofs.Follow.{Follow, bothGood, follow-on, follow-with, follow-then}
-use Rattle.replay.proofs.Stood.{Stood, more-length}
-use Rattle.replay.proofs.JoinFollow.{JoinMeet, join-follow}
+use Rattle.replay.proofs.JoinFollow.{join-follow}
 
 -- both have the same totals and the same next bit, and the codes are those of the metal
 abbrev pub NetMeet : Grid → Progress → Ended → Arrays → Type 0
 NetMeet g read ended arrays = (ended ≡ record { totals = read .totals; next = read .at }) × Codes g (read .metal) (arrays .codes)
 
--- before each record of net k: the arrays stand for what stands, which keeps tree and unjoined pins apart; these are among the net's pins; and the
--- view is the net's
-pub record AtNet (j : Job) (k : ℕ) (view : View) (pins : List ℕ) (s : Standing) (arrays : Arrays) : Type 0 where
-  pub stood : Stood (j .grid) s arrays
-  pub apart : Stands (techOf j) s
-  pub known : k < length (s .metal)
-  pub among : (v : ℕ) → member v (s .unjoined) ≡ true → member v pins ≡ true
-  pub sees : view ≡ viewOf j k (s .metal)
-
--- a pin that is left was there before
-without-member : (v w : ℕ) (ps : List ℕ) → member v (without w ps) ≡ true → member v ps ≡ true
-without-member v w ps e = by (member v ps) refl
-  where
-    by : (b : Bool) → member v ps ≡ b → b ≡ true
-    by true h = refl
-    by false h = absurd (not-both e (without-less v w ps h))
-
 module _ (B : List ℕ) (bits : AllBelow 2 B) {j : Job} (good-j : GoodJob j) (k : ℕ) (view : View) (pins : List ℕ)
     (on : All (λ v. v < vertices (j .grid)) pins) where
-  -- after a join
-  net-joined : (s : Standing) (at : ℕ) (before after : Arrays) (read : JoinRead) (joined : Joined) → AtNet j k view pins s before
-      → readJoin B j k s at ≡ good read → JoinMeet (j .grid) k s read joined after
-      → AtNet j k view pins (joinedBy k s (read .moved .last .vertex) (read .moved .sum)) after
-  unfolding joinedBy
-  net-joined s at before after read joined here is meet =
-      record {
-        stood = meet .1;
-        apart = legal-apart good-j k s (here .apart) (join-good B bits j k s at read is .legal);
-        known = rw more-length (here .known);
-        among = λ v e. here .among v (without-member v (read .moved .last .vertex) (s .unjoined) e);
-        sees = here .sees ∙ sym (view-own j k _ (s .metal));
-      }
-
   -- reading at most n records follows
   abbrev NetFollows : (n : ℕ) → Type 0
   NetFollows n =
@@ -99,7 +64,8 @@ module _ (B : List ℕ) (bits : AllBelow 2 B) {j : Job} (good-j : GoodJob j) (k 
       rw (meet .0, ← here .sees) (follow-with (NetMeet (j .grid))
       (before (record { net = k; before = s; written = join (read .start) (read .moved .moves) (read .moved .sum .cost) }))
       (rest-follows (joinedBy k s (read .moved .last .vertex) (read .moved .sum)) (withJoin totals (read .moved .sum)) (read .next) after
-      (net-joined s (at + 1) arrays after read joined here is meet)))))
+      (net-joined j k view pins s (read .moved .sum) (read .moved .last .vertex) arrays after here
+      (legal-apart good-j k s (here .apart) (join-good B bits j k s (at + 1) read is .legal)) (meet .1))))))
 
   -- the law
   pub net-follow : (n : ℕ) → NetFollows n

@@ -33,6 +33,7 @@ use Rattle.rules.specs.declared.step.Place.{Place as PlaceStruct}
 use Rattle.rules.proofs.Techs.{largest-small}
 use Rattle.rules.proofs.Members.{not-both}
 use Rattle.plan.specs.Reading.{group, agree}
+use Rattle.walker.proofs.Landing.{step-lands}
 use Rattle.replay.specs.Following.{readStart, readCost, judgedBy, judgedMove}
 use Rattle.replay.specs.Structs.{AtPlace, judgedOf, WholeJudged, IsJudged}
 use Rattle.replay.specs.declared.judge.Judged.the-variants as Judge
@@ -40,7 +41,6 @@ use Rattle.rules.specs.declared.step.Made.{Made as MadeStruct}
 use Rattle.rules.specs.declared.step.Stepped.{Stepped as SteppedEnum}
 use Rattle.rules.specs.declared.step.Stepped.the-variants.{Illegal, Legal}
 use Rattle.replay.specs.declared.judge.Judged.{Judged}
-use Rattle.replay.proofs.MovesFollow.{step-lands}
 
 -- a group that is whole holds a shorter one
 pub whole-less : (bits : List ℕ) (at : ℕ) {w : ℕ} (more : ℕ) → w ≤ more → whole bits at more ≡ true → whole bits at w ≡ true

@@ -6,16 +6,15 @@
 --     recording-refused, recording-on     a join
 --     recording-done                      no record is left
 use Prim.Native.Nat.{ℕ, zero, suc, _+_, _-_, _*_, _^_, _≤_, _<_}
-use mathlib.Core.Path.{_≡_, refl, sym, ap, subst, _∙_}
-use mathlib.Core.List.{List, [], _∷_}
+use mathlib.Core.Path.{_≡_, refl, sym, ap, _∙_}
+use mathlib.Core.List.{List}
 use mathlib.Core.Bool.{Bool, true, false, cond}
 use native.Mathlib.Omega.{arith}
 use lib.ListN.{length}
 use lib.Dec.{eqb}
 use borrow.Author.Tests.{eqb-true, eqb-false}
 use Rattle.bits.specs.Bits.{field, whole, AllBelow}
-use Rattle.job.specs.Structs.{gridOf}
-use Rattle.job.specs.Reading.{Read, refused, good, rule}
+use Rattle.job.specs.Reading.{Read, good, rule}
 use Rattle.rules.specs.Views.{View}
 use Rattle.rules.specs.Structs.{TechFits, techBy}
 use Rattle.rules.specs.Routings.{Totals, withJoin, withNet}
@@ -23,11 +22,13 @@ use Rattle.rules.specs.declared.price.Tech.{Tech as TechStruct}
 use Rattle.rules.specs.declared.totals.Totals.{Totals as TotalsStruct}
 use Rattle.plan.specs.Reading.{group}
 use Rattle.tree.specs.Spots.{someUnjoined}
-use Rattle.replay.specs.Following.{Arrays, Came, came, stopped, andOn, andRead, arraysOf, Joined, joinFrom, Ended, byFlag, netFrom}
-use Rattle.replay.specs.Structs.{flagOf, totalsOf, Bounded, IsWalk, WalkFits, IsJoin, JoinFits, IsNet, NetFits}
+use Rattle.walker.specs.Entering.{Arrays}
+use Rattle.walker.specs.Structs.{totalsOf, Bounded, WalkFits}
+use Rattle.walker.specs.declared.Walk.{Walk}
+use Rattle.replay.specs.Following.{Came, came, stopped, andOn, andRead, arraysOf, Joined, joinFrom, Ended, byFlag, netFrom}
+use Rattle.replay.specs.Structs.{flagOf, IsJoin, JoinFits, IsNet, NetFits}
 use Rattle.replay.specs.declared.join.JoinRead.{JoinRead}
 use Rattle.replay.specs.declared.join.JoinRead.the-variants as Join
-use Rattle.replay.specs.declared.moves.Walk.{Walk}
 use Rattle.replay.specs.declared.net.Flag.{Flag}
 use Rattle.replay.specs.declared.net.Flag.the-variants as Flags
 use Rattle.replay.specs.declared.net.NetRead.{NetRead}

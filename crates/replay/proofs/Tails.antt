@@ -2,7 +2,7 @@
 --     tail-long, tail-none, tail-left     eight bits or more are left; none; fewer
 --     few-bytes                           a slice whose bits are few has few bytes
 use Prim.Native.Nat.{ℕ, _+_, _-_, _*_, _/_, _≤_, _<_}
-use mathlib.Core.Path.{_≡_, refl, sym, ap, _∙_}
+use mathlib.Core.Path.{_≡_, refl}
 use mathlib.Core.List.{List}
 use mathlib.Core.Bool.{Bool, true, false, _&&_}
 use native.Mathlib.Omega.{arith}

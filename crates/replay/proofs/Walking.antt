@@ -1,12 +1,12 @@
 -- The turns of reading the moves of a join.
 --     Walking            what has been read, and that the rest gives the whole
---     MoveFits, move-fits   what is known of a move
+--     move-fits          what is known of a move
 --     walking-begun      before the first move
 --     walking-on         after a move
 --     walking-refused    a move that is refused
 --     walking-done       after the last
 use Prim.Native.Nat.{ℕ, zero, suc, _+_, _-_, _*_, _^_, _≤_, _<_}
-use mathlib.Core.Path.{_≡_, refl, sym, ap, subst, _∙_}
+use mathlib.Core.Path.{_≡_, refl, sym, ap, _∙_}
 use mathlib.Core.List.{List, [], _∷_, _++_}
 use mathlib.Core.Bool.{Bool}
 use native.Mathlib.Omega.{arith}
@@ -16,72 +16,48 @@ use Rattle.bits.specs.Bits.{field}
 use Rattle.job.specs.Grid.{vertices}
 use Rattle.job.specs.Structs.{gridOf}
 use Rattle.job.specs.Reading.{Read, refused, good}
-use Rattle.job.proofs.Binds.{then-good}
 use Rattle.rules.specs.Views.{View}
-use Rattle.rules.specs.Segments.{Place}
-use Rattle.rules.specs.Places.{GoodPlace}
-use Rattle.rules.specs.Steps.{Made, legal, step, priced}
-use Rattle.rules.specs.Walks.{nothingYet, startAt}
-use Rattle.rules.specs.Structs.{directionOf, segmentOf, TechFits, techBy, placeOf, madeBy, Whole}
+use Rattle.rules.specs.Steps.{Made, legal, step}
+use Rattle.rules.specs.Structs.{directionOf, TechFits, techBy, placeOf, madeBy, Whole}
 use Rattle.rules.specs.declared.price.Tech.{Tech as TechStruct}
 use Rattle.rules.specs.declared.step.Made.{Made as MadeStruct}
-use Rattle.rules.specs.declared.segment.Segment.the-variants.{Paid}
-use Rattle.rules.proofs.Places.{start-good}
-use Rattle.rules.proofs.Moves.{step-limits, step-penalties}
-use Rattle.plan.specs.Reading.{group}
 use Rattle.metal.specs.Codes.{layAll, beyond}
 use Rattle.metal.proofs.Laid.{laid-length}
-use Rattle.metal.proofs.Runs.{beyond-clear}
-use Rattle.replay.specs.Following.{Arrays, Came, came, stopped, andRead, arraysOf, judgedBy, judgedMove, enterBy, Gone, goneAt, thenMade, goneOn, movesFrom}
-use Rattle.replay.specs.Structs.{AtPlace, judgedOf, WholeJudged, IsJudged, IsWalk, WalkFits, IsMoves, MovesFit, walkOn}
+use Rattle.walker.specs.Entering.{Arrays, enterBy, Gone, goneAt, goneOn}
+use Rattle.walker.specs.Structs.{walkFrom, walkOn}
+use Rattle.walker.specs.declared.Walk.{Walk}
+use Rattle.walker.proofs.Landing.{MoveFits, made-fits, made-entered, MovesMade, made-none, made-one, made-all}
+use Rattle.replay.specs.Following.{Came, came, stopped, andRead, arraysOf, judgedMove, movesFrom}
+use Rattle.replay.specs.Structs.{judgedOf, WholeJudged, IsJudged, IsMoves, MovesFit}
 use Rattle.replay.specs.declared.judge.Judged.{Judged}
 use Rattle.replay.specs.declared.judge.Judged.the-variants as Judge
-use Rattle.replay.specs.declared.moves.Walk.{Walk}
 use Rattle.replay.specs.declared.moves.MovesRead.{MovesRead}
-use Rattle.replay.proofs.MovesFollow.{Lands, step-lands}
 use Rattle.replay.proofs.Parts.{judged-step}
-
--- a move leads to a good place, and its numbers are small
-pub record MoveFits (tech : TechStruct) (m : MadeStruct) : Type 0 where
-  pub place : GoodPlace (techBy tech) (placeOf (m .next))
-  pub price : m .enter + m .over ≤ 197625
-  pub added : m .added ≤ 15
-  pub penalties : m .penalties ≤ 1
 
 module _ (tech : TechStruct) (view : View) (B : List ℕ) (net count from start : ℕ) (first : Arrays) where
   -- what reading the moves comes to
   abbrev pub Whole-moves : Came Gone
   Whole-moves = movesFrom B (techBy tech) view net count from (goneAt start) first
 
-  -- so many moves are left: the walk so far has led to a good place, the rest from there gives the whole, and the walk's numbers are small
+  -- so many moves are left: the rest from where the walk has led gives the whole
   pub record Walking (spots codes : List ℕ) (walk : Walk) (at left : ℕ) : Type 0 where
     pub gone : Gone
-    pub is : IsWalk walk gone
-    pub place : GoodPlace (techBy tech) (placeOf (walk .place))
+    pub made : MovesMade tech (count - left) walk gone
     pub same : Whole-moves ≡ movesFrom B (techBy tech) view net left at gone (record { spots = spots; codes = codes })
     pub next : at + 2 * left ≡ from + 2 * count
     pub few : left ≤ count
-    pub cost : walk .cost ≤ 197625 * (count - left)
-    pub added : walk .added ≤ 15 * (count - left)
-    pub penalties : walk .penalties ≤ count - left
     pub size : length codes ≡ length (first .codes)
 
   -- before the first move
-  pub walking-begun : start < vertices (gridOf (tech .grid))
-      → Walking (first .spots) (first .codes)
-      (record { place = record { vertex = start; segment = Paid }; cost = 0; added = 0; penalties = 0 }) from count
-  unfolding goneAt nothingYet startAt segmentOf techBy
-  walking-begun on =
+  pub walking-begun : {walk : Walk} → walk ≡ walkFrom start → start < vertices (gridOf (tech .grid)) → Walking (first .spots) (first .codes) walk from count
+  walking-begun begun on =
+      let none : count - count ≡ 0 = omega arith in
       record {
         gone = goneAt start;
-        is = record { place = refl; cost = refl; added = refl; penalties = refl };
-        place = start-good on;
+        made = rw (begun, none) (made-none tech start on);
         same = refl;
         next = refl;
         few = omega arith;
-        cost = omega arith;
-        added = omega arith;
-        penalties = omega arith;
         size = refl;
       }
 
@@ -104,7 +80,7 @@ module _ (tech : TechStruct) (view : View) (B : List ℕ) (net count from start 
         by zero h = absurd (omega (arith, h))
         by (suc n) h =
             let less : suc n - 1 ≡ n = omega arith in
-            rw (eqb·suc-suc n 0, less, so-far .is .place) refl
+            rw (eqb·suc-suc n 0, less, so-far .made .is .place) refl
 
     -- the rest, once the move is read
     abbrev Rest : Read Made → Came Gone
@@ -122,18 +98,18 @@ module _ (tech : TechStruct) (view : View) (B : List ℕ) (net count from start 
         let whole : Whole-moves ≡ stopped n p (record { spots = spots; codes = codes }) = one-more ∙ ap Rest read in
         rw whole ((refl, refl), (tt, (refl, refl)))
 
-    -- the definition's move
-    abbrev made : MadeStruct → Made
-    made m = madeBy (gridOf (tech .grid)) view (walk .place .vertex) m
+    module _ (last : Bool) {r : Judged} (m : MadeStruct) (judged : Judges r last) (told : r ≡ Judge.Good m) where
+      -- the definition's move
+      abbrev made : Made
+      made = madeBy (gridOf (tech .grid)) view (walk .place .vertex) m
 
-    module _ (last : Bool) {r : Judged} {m : MadeStruct} (judged : Judges r last) (told : r ≡ Judge.Good m) where
       -- it is judged good
-      is-good : judgedMove B (techBy tech) view spots last at (placeOf (walk .place)) ≡ good (made m)
+      is-good : judgedMove B (techBy tech) view spots last at (placeOf (walk .place)) ≡ good made
       unfolding judgedOf
       is-good = sym (rw told at (judged .same))
 
       -- it is a legal step
-      is-step : step (techBy tech) view (placeOf (walk .place)) (field B at 2) ≡ legal (made m)
+      is-step : step (techBy tech) view (placeOf (walk .place)) (field B at 2) ≡ legal made
       is-step = judged-step B (techBy tech) view spots last at (placeOf (walk .place)) is-good
 
       -- its extension is whole
@@ -143,47 +119,25 @@ module _ (tech : TechStruct) (view : View) (B : List ℕ) (net count from start 
 
       -- it leads to a good place, and its numbers are small
       pub move-fits : TechFits tech → MoveFits tech m
-      unfolding madeBy priced
-      move-fits fits =
-          record {
-            place = step-lands view (placeOf (walk .place)) (field B at 2) (fits .good) (so-far .place) is-step .place;
-            price = step-limits view (placeOf (walk .place)) (field B at 2) (fits .good) (so-far .place) (ap priced is-step);
-            added = omega (arith, is-whole .few);
-            penalties = step-penalties (techBy tech) view (placeOf (walk .place)) (field B at 2) is-step;
-          }
+      move-fits fits = made-fits tech view (walk .place) (field B at 2) m is-step is-whole fits (so-far .made .place)
 
       -- after the move
       pub walking-on : TechFits tech → last ≡ eqb left 1 → {more after : List ℕ} {onward : Walk} → more ≡ set spots (m .next .vertex) 1
           → after ≡ layAll net (beyond (gridOf (tech .grid)) (directionOf (m .toward)) (m .added) (walk .place .vertex) ++ (m .next .vertex ∷ [])) codes
           → onward ≡ walkOn walk m → Walking more after onward (at + 2) (left - 1)
-      unfolding madeBy enterBy goneOn thenMade walkOn andRead
+      unfolding andRead
       walking-on fits isLast {more} {after} {onward} marked laid walked =
-          let new = move-fits fits in
-          let run = beyond-clear (gridOf (tech .grid)) view (directionOf (m .toward)) (m .added) (walk .place .vertex) (is-whole .clear) in
-          let long = is-whole .clear in
-          let codes-after : layAll net (made m .laid ++ (m .next .vertex ∷ [])) codes ≡ after =
-          sym (laid ∙ ap (λ (vs : List ℕ). layAll net (vs ++ (m .next .vertex ∷ [])) codes) run) in
-          let arrays : enterBy net (made m) (record { spots = spots; codes = codes }) ≡ record { spots = more; codes = after } =
-          λ i. record { spots = sym marked i; codes = codes-after i } in
-          rw walked (record {
-            gone = goneOn (so-far .gone) (made m);
-            is = record {
-              place = refl;
-              cost = ap (λ (n : ℕ). n + (m .enter + m .over)) (so-far .is .cost);
-              added = omega (arith, so-far .is .added, long);
-              penalties = ap (λ (n : ℕ). n + m .penalties) (so-far .is .penalties);
-            };
-            place = new .place;
+          let arrays = made-entered tech view (walk .place) (field B at 2) m is-step is-whole net spots codes marked laid in
+          let one : count - (left - 1) ≡ suc (count - left) = omega (arith, so-far .few, some) in
+          record {
+            gone = goneOn (so-far .gone) made;
+            made = rw (walked, one) (made-one tech view m (so-far .made) (move-fits fits) is-whole);
             same =
-                one-more ∙ ap Rest (rw isLast at is-good)
-                ∙ ap (movesFrom B (techBy tech) view net (left - 1) (at + 2) (goneOn (so-far .gone) (made m))) arrays;
+                one-more ∙ ap Rest (rw isLast at is-good) ∙ ap (movesFrom B (techBy tech) view net (left - 1) (at + 2) (goneOn (so-far .gone) made)) arrays;
             next = omega (arith, so-far .next, some);
             few = omega (arith, so-far .few);
-            cost = omega (arith, so-far .cost, so-far .few, some, new .price);
-            added = omega (arith, so-far .added, so-far .few, some, new .added);
-            penalties = omega (arith, so-far .penalties, so-far .few, some, new .penalties);
             size = ap length laid ∙ laid-length net _ codes ∙ so-far .size;
-          })
+          }
 
   -- after the last move
   pub walking-done : {spots codes : List ℕ} {walk : Walk} {at left : ℕ} → Walking spots codes walk at left → left ≤ 0 → count < 2 ^ 20
@@ -192,6 +146,4 @@ module _ (tech : TechStruct) (view : View) (B : List ℕ) (net count from start 
   walking-done {spots} {codes} {walk} {left = left} so-far none few =
       let no-move : left ≡ 0 = omega arith in
       let whole : Whole-moves ≡ came (so-far .gone) (record { spots = spots; codes = codes }) = so-far .same ∙ rw no-move refl in
-      let small : WalkFits walk =
-      record { cost = omega (arith, so-far .cost, few); added = omega (arith, so-far .added, few); penalties = omega (arith, so-far .penalties, few) } in
-      rw whole (so-far .is, (small, (refl, refl)))
+      rw whole (so-far .made .is, (made-all (so-far .made) (omega (arith, few)), (refl, refl)))

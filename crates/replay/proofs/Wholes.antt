@@ -1,33 +1,28 @@
 -- A whole plan.
 --     end-refused, end-tail, end-good      the tail after the last net
 --     plan-coded                           the codes of a good plan are those of its metal
---     nets-held, plan-replayed             from the job that was read to the map at the end
-use Prim.Native.Nat.{ℕ, _≤_}
+--     plan-answer, plan-map                the answer and the map of a plan
+use Prim.Native.Nat.{ℕ}
 use mathlib.Core.Path.{_≡_, refl, sym, ap, subst, _∙_}
 use mathlib.Core.List.{List}
 use mathlib.Core.Bool.{true, false}
 use native.Mathlib.Omega.{arith}
-use lib.ListN.{length}
 use Rattle.bits.specs.Bits.{bitsOf}
 use Rattle.job.specs.Grid.{Grid, vertices}
 use Rattle.job.specs.Job.{Job}
-use Rattle.job.specs.Good.{allPins}
 use Rattle.job.specs.Reading.{Read, refused, good, _>>=_, _>>_, rule, readJob}
 use Rattle.job.specs.Structs.{gridOf}
 use Rattle.job.proofs.Binds.{steps}
-use Rattle.rules.specs.Prices.{techOf}
 use Rattle.rules.specs.Standings.{metalAtFirst}
 use Rattle.rules.specs.Routings.{noTotals, Routed}
-use Rattle.rules.specs.Structs.{techBy}
 use Rattle.rules.specs.declared.price.Tech.{Tech as TechStruct}
 use Rattle.rules.specs.declared.totals.Totals.{Totals as TotalsStruct}
 use Rattle.plan.specs.Reading.{Progress, readNets, readPlan}
-use Rattle.metal.specs.Codes.{Codes, Beyond, Bare, zeroed, withObstacles}
-use Rattle.marks.specs.Marks.{Marks}
-use Rattle.metal.specs.Jobs.{JobHeld}
-use Rattle.metal.proofs.Slices.{beyond-trans, zeroed-bare, zeroed-beyond, zeroed-kept}
-use Rattle.metal.proofs.Finished.{map-finished}
-use Rattle.replay.specs.Structs.{totalsOf, NetsHeld, IsNets, PlanHeld, IsReplayed, planFrom, IsEnd, finishedMap, replayedMap}
+use Rattle.metal.specs.Codes.{Codes, Beyond, zeroed}
+use Rattle.metal.proofs.Slices.{beyond-trans, zeroed-kept}
+use Rattle.walker.specs.Structs.{PlanHeld}
+use Rattle.walker.proofs.Wholes.{laid-kept, read-grid, finished-map}
+use Rattle.replay.specs.Structs.{IsNets, IsReplayed, planFrom, IsEnd, finishedMap, replayedMap}
 use Rattle.replay.specs.declared.net.NetRead.{NetRead}
 use Rattle.replay.specs.declared.whole.Replayed.{Replayed}
 use Rattle.replay.proofs.Tails.{TailTest}
@@ -88,91 +83,36 @@ plan-coded g bits (NetRead.Ended totals at) x codes r (all, e, total, next, code
 
 -- ---- from the job that was read to the map at the end
 
-module _ (bytes : List ℕ) (tech : TechStruct) (marks found : List ℕ) (count start : ℕ) (held : PlanHeld bytes tech marks found count start) where
-  -- the code's grid is the job's
-  plan-grid : gridOf (tech .grid) ≡ held .job .grid
-  unfolding techBy techOf
-  plan-grid = λ i. held .layers i .grid
+module _ (bytes : List ℕ) (tech : TechStruct) (marks found : List ℕ) (count start : ℕ) (held : PlanHeld bytes tech marks found count start)
+    {bare laid : List ℕ} (zeros : bare ≡ zeroed (vertices (gridOf (tech .grid))) found) (kept : Beyond (vertices (gridOf (tech .grid))) laid bare)
+    (plan : List ℕ) (read : NetRead) (replayed : Replayed) {after map : List ℕ}
+    (is : (j : Job) → readJob bytes ≡ good j → IsNets (gridOf (tech .grid)) read (readNets (bitsOf plan) j 0 (j .nets) (metalAtFirst j) noTotals 0) after)
+    (still : Beyond (vertices (gridOf (tech .grid))) after laid) (ended : IsEnd (bitsOf plan) read replayed)
+    (finished : map ≡ finishedMap marks (vertices (gridOf (tech .grid))) replayed after) (j : Job) (jobIs : readJob bytes ≡ good j) where
+  -- the answer is the plan's
+  pub plan-answer : IsReplayed replayed (readPlan j plan)
+  unfolding readPlan planFrom
+  plan-answer = ended (gridOf (tech .grid)) _ after (is j jobIs)
 
-  -- the map has room
-  pub plan-room : vertices (gridOf (tech .grid)) ≤ length found
-  plan-room = rw plan-grid (held .room)
+  -- and so is the map
+  pub plan-map : map ≡ replayedMap j (readPlan j plan) found
+  unfolding readPlan planFrom IsReplayed finishedMap replayedMap
+  plan-map = finished ∙ by replayed plan-answer
+    where
+      past : Beyond (vertices (gridOf (tech .grid))) after found
+      past = beyond-trans still (laid-kept bytes tech marks found count start held zeros kept)
 
-  -- what laying the pins asks
-  pub pins-held : JobHeld bytes (tech .grid) count start
-  pins-held = record { job = held .job; read = held .read; grid = sym plan-grid; nets = held .nets; from = held .from }
+      g : gridOf (tech .grid) ≡ j .grid
+      g = read-grid bytes tech marks found count start held j jobIs
 
-  module _ {bare laid : List ℕ} (zeros : bare ≡ zeroed (vertices (gridOf (tech .grid))) found) (kept : Beyond (vertices (gridOf (tech .grid))) laid bare)
-      (coded : (j : Job) → readJob bytes ≡ good j → Bare (vertices (gridOf (tech .grid))) bare → Codes (gridOf (tech .grid)) (metalAtFirst j) laid) where
-    -- with the pins laid it is as found, past the grid
-    laid-kept : Beyond (vertices (gridOf (tech .grid))) laid found
-    laid-kept = beyond-trans kept (rw zeros (zeroed-beyond plan-room))
+      by : (r : Replayed) → IsReplayed r (readPlan j plan) → finishedMap marks (vertices (gridOf (tech .grid))) r after ≡ replayedMap j (readPlan j plan) found
+      by (Replayed.Refused n p) e =
+          zeroed-kept past ∙ ap (λ (h : Grid). zeroed (vertices h) found) g ∙ sym (ap (λ (x : Read Routed). replayedMap j x found) e)
+      by (Replayed.Good totals) (r, e, total) =
+          finished-map bytes tech marks found count start held (r .metal) after (plan-coded (gridOf (tech .grid)) (bitsOf plan) read _ after r (is j jobIs) e) past j jobIs
+          ∙ sym (ap (λ (x : Read Routed). replayedMap j x found) e)
 
-    -- what reading the nets asks
-    pub nets-held : NetsHeld bytes tech marks laid count start
-    nets-held =
-        record {
-          job = held .job;
-          read = held .read;
-          layers = held .layers;
-          fits = held .fits;
-          nets = held .nets;
-          from = held .from;
-          marked = held .marked;
-          coded = rw plan-grid at (coded (held .job) (held .read) (rw zeros (zeroed-bare _ found)));
-          room = omega (arith, held .room, laid-kept .size);
-        }
-
-    -- the map has room after the nets
-    pub after-long : {after : List ℕ} → Beyond (vertices (gridOf (tech .grid))) after laid → vertices (gridOf (tech .grid)) ≤ length after
-    after-long still = omega (arith, plan-room, laid-kept .size, still .size)
-
-    module _ (plan : List ℕ) (read : NetRead) (replayed : Replayed) {after map : List ℕ}
-        (is : (j : Job) → readJob bytes ≡ good j → IsNets (gridOf (tech .grid)) read (readNets (bitsOf plan) j 0 (j .nets) (metalAtFirst j) noTotals 0) after)
-        (still : Beyond (vertices (gridOf (tech .grid))) after laid) (ended : IsEnd (bitsOf plan) read replayed)
-        (finished : map ≡ finishedMap marks (vertices (gridOf (tech .grid))) replayed after) (j : Job) (jobIs : readJob bytes ≡ good j) where
-      -- the answer is the plan's
-      pub plan-answer : IsReplayed replayed (readPlan j plan)
-      unfolding readPlan planFrom
-      plan-answer = ended (gridOf (tech .grid)) _ after (is j jobIs)
-
-      -- and so is the map
-      pub plan-map : map ≡ replayedMap j (readPlan j plan) found
-      unfolding readPlan planFrom IsReplayed finishedMap replayedMap
-      plan-map = finished ∙ by replayed plan-answer
-        where
-          same : held .job ≡ j
-          same = cc (held .read)
-
-          g : gridOf (tech .grid) ≡ j .grid
-          g = plan-grid ∙ ap (λ (k : Job). k .grid) same
-
-          past : Beyond (vertices (gridOf (tech .grid))) after found
-          past = beyond-trans still laid-kept
-
-          by : (r : Replayed) → IsReplayed r (readPlan j plan) → finishedMap marks (vertices (gridOf (tech .grid))) r after ≡ replayedMap j (readPlan j plan) found
-          by (Replayed.Refused n p) e =
-              zeroed-kept past ∙ ap (λ (h : Grid). zeroed (vertices h) found) g ∙ sym (ap (λ (x : Read Routed). replayedMap j x found) e)
-          by (Replayed.Good totals) (r, e, total) =
-              let coded = plan-coded (gridOf (tech .grid)) (bitsOf plan) read _ after r (is j jobIs) e in
-              ap (λ (h : Grid). withObstacles marks (vertices h) after) g
-              ∙ map-finished j (r .metal) marks after found
-              (subst (λ (k : Job). Marks (k .grid) (k .obstacles) (allPins (k .nets)) marks) same (held .marked)) (subst (λ (k : Job). vertices (k .grid) ≤ length found) same (held .room))
-              (subst (λ (h : Grid). Codes h (r .metal) after) g coded) (subst (λ (h : Grid). Beyond (vertices h) after found) g past)
-              ∙ sym (ap (λ (x : Read Routed). replayedMap j x found) e)
-
--- the map zeroed by a count of the vertices
-pub count-zeroed : (found : List ℕ) {n v : ℕ} {bare : List ℕ} → n ≡ v → bare ≡ zeroed n found → bare ≡ zeroed v found
-count-zeroed found {bare = bare} e h = subst (λ (k : ℕ). bare ≡ zeroed k found) e h
-
--- and finished by it
+-- the map finished by a count of the vertices
 pub count-finished : (marks : List ℕ) (r : Replayed) (after : List ℕ) {n v : ℕ} {map : List ℕ} → n ≡ v → map ≡ finishedMap marks n r after
     → map ≡ finishedMap marks v r after
 count-finished marks r after {map = map} e h = subst (λ (k : ℕ). map ≡ finishedMap marks k r after) e h
-
--- it has room
-pub bare-long : (bytes : List ℕ) (tech : TechStruct) (marks found : List ℕ) (count start : ℕ) → PlanHeld bytes tech marks found count start → {bare : List ℕ}
-    → bare ≡ zeroed (vertices (gridOf (tech .grid))) found → vertices (gridOf (tech .grid)) ≤ length bare
-bare-long bytes tech marks found count start held zeros =
-    let room = plan-room bytes tech marks found count start held in
-    rw zeros (omega (arith, room, zeroed-beyond {xs = found} room .size))

@@ -1,14 +1,14 @@
 -- The code's way through a plan: reading it with what stands in arrays. The laws that tie it to `readPlan` are in proofs/; no promise to a
 -- caller from outside speaks of it.
---     Arrays, Came, andOn           what stands, in arrays; how far reading has come, or its refusal
---     judgedMove, enterBy           a move that is read, and what it leaves
---     Gone, movesFrom               the moves of a join
+--     Came, andOn                   how far reading has come, or its refusal
+--     judgedMove                    a move that is read
+--     movesFrom                     the moves of a join
 --     readStart, costFrom, joinFrom  a join
 --     netFrom                       the records of a net
 use Prim.Native.Nat.{ℕ, zero, suc, _+_, _*_}
-use mathlib.Core.List.{List, [], _∷_, _++_}
+use mathlib.Core.List.{List}
 use mathlib.Core.Bool.{Bool, _&&_, cond}
-use lib.ListN.{length, getD, set}
+use lib.ListN.{getD}
 use lib.Dec.{leb, eqb}
 use Rattle.bits.specs.Bits.{field}
 use Rattle.job.specs.Grid.{Grid, vertexNumber, inside}
@@ -17,16 +17,10 @@ use Rattle.rules.specs.Views.{View}
 use Rattle.rules.specs.Segments.{Place}
 use Rattle.rules.specs.Prices.{Tech}
 use Rattle.rules.specs.Steps.{Made, Stepped, illegal, legal, step}
-use Rattle.rules.specs.Walks.{Sum, nothingYet, startAt}
 use Rattle.rules.specs.Routings.{Totals, withJoin, withNet}
 use Rattle.plan.specs.Reading.{group, agree}
-use Rattle.metal.specs.Codes.{layAll}
 use Rattle.tree.specs.Spots.{someUnjoined}
-
--- the bytes of the tree, and the map's codes
-pub record Arrays : Type 0 where
-  pub spots : List ℕ
-  pub codes : List ℕ
+use Rattle.walker.specs.Entering.{Arrays, enterBy, Gone, goneAt, goneOn}
 
 pub data Came (A : Type 0) : Type 0 where
   came : A → Arrays → Came A
@@ -58,35 +52,6 @@ unfoldable pub judgedMove : (bits : List ℕ) → Tech → View → (spots : Lis
 judgedMove bits t view spots last at p = do
   group bits at 2
   judgedBy at last spots (step t view p (field bits at 2))
-
--- the vertices of its extension and the vertex that it enters become metal of net n, and that vertex enters the tree
-unfoldable pub enterBy : (n : ℕ) → Made → Arrays → Arrays
-enterBy n made arrays =
-    record {
-      spots = set (arrays .spots) (made .next .vertex) 1;
-      codes = layAll n (made .laid ++ (made .next .vertex ∷ [])) (arrays .codes);
-    }
-
--- where the moves so far have led, and their sum
-pub record Gone : Type 0 where
-  pub place : Place
-  pub sum : Sum
-
-unfoldable pub goneAt : (start : ℕ) → Gone
-goneAt start = record { place = startAt start; sum = nothingYet }
-
-unfoldable pub thenMade : Sum → Made → Sum
-thenMade sum made =
-    record {
-      vertices = sum .vertices ++ (made .next .vertex ∷ []);
-      laid = sum .laid ++ made .laid;
-      cost = sum .cost + (made .enter + made .over);
-      added = sum .added + length (made .laid);
-      penalties = sum .penalties + made .penalties;
-    }
-
-unfoldable pub goneOn : Gone → Made → Gone
-goneOn gone made = record { place = made .next; sum = thenMade (gone .sum) made }
 
 unfoldable pub movesFrom : (bits : List ℕ) → Tech → View → (net n at : ℕ) → Gone → Arrays → Came Gone
 movesFrom bits t view net zero at gone arrays = came gone arrays

@@ -1,5 +1,5 @@
 -- The forms in which the code answers, each made from what Following says.
-use Prim.Native.Nat.{ℕ, _+_, _-_, _*_, _^_, _≤_, _<_}
+use Prim.Native.Nat.{ℕ, _-_, _≤_}
 use mathlib.Core.Path.{_≡_}
 use mathlib.Core.List.{List, _++_}
 use mathlib.Core.Bool.{_&&_, cond}
@@ -8,13 +8,9 @@ use Rattle.bits.specs.Bits.{field, whole, number}
 use lib.ListN.{length, drop}
 use Rattle.job.specs.Grid.{Grid, vertices}
 use Rattle.job.specs.Job.{Job}
-use Rattle.job.specs.Good.{allPins}
-use Rattle.job.specs.Reading.{Read, refused, good, _>>=_, _>>_, rule, jobHead, netsAt, readJob}
-use Rattle.rules.specs.Prices.{techOf}
-use Rattle.rules.specs.Standings.{metalAtFirst}
+use Rattle.job.specs.Reading.{Read, refused, good, _>>=_, _>>_, rule}
 use Rattle.plan.specs.Reading.{Progress}
 use Rattle.metal.specs.Codes.{Codes, zeroed, withObstacles}
-use Rattle.marks.specs.Marks.{Marks}
 use Rattle.rules.specs.Views.{View}
 use Rattle.rules.specs.Places.{GoodPlace}
 use Rattle.rules.specs.Steps.{Made}
@@ -22,13 +18,12 @@ use Rattle.rules.specs.Structs.{Whole, TechFits, techBy, placeOf, madeBy}
 use Rattle.rules.specs.declared.price.Tech.{Tech as TechStruct}
 use Rattle.rules.specs.declared.step.Place.{Place as PlaceStruct}
 use Rattle.marks.specs.declared.reached.Reached.{Reached}
-use Rattle.replay.specs.Following.{Came, came, stopped, Gone, Start, Joined, Ended}
-use Rattle.rules.specs.declared.step.Made.{Made as MadeStruct}
-use Rattle.replay.specs.declared.moves.Walk.{Walk}
+use Rattle.walker.specs.Structs.{IsWalk, WalkFits, totalsOf, Bounded}
+use Rattle.walker.specs.Entering.{Gone}
+use Rattle.replay.specs.Following.{Came, came, stopped, Start, Joined, Ended}
 use Rattle.replay.specs.declared.moves.MovesRead.{MovesRead}
-use Rattle.rules.specs.Routings.{Totals, Routed}
+use Rattle.rules.specs.Routings.{Routed}
 use Rattle.rules.specs.Maps.{mapOf}
-use Rattle.rules.specs.declared.totals.Totals.{Totals as TotalsStruct}
 use Rattle.replay.specs.declared.net.Flag.{Flag}
 use Rattle.replay.specs.declared.net.Flag.the-variants as Flags
 use Rattle.replay.specs.declared.net.NetRead.{NetRead}
@@ -70,34 +65,12 @@ costRead (good next) = Reached.At next
 
 -- ---- the moves of a join
 
--- the code's walk has led to the place, at the cost, with the added steps and penalties
-pub record IsWalk (w : Walk) (gone : Gone) : Type 0 where
-  pub place : placeOf (w .place) ≡ gone .place
-  pub cost : w .cost ≡ gone .sum .cost
-  pub added : w .added ≡ gone .sum .added
-  pub penalties : w .penalties ≡ gone .sum .penalties
-
 -- refused alike, or the walk
 unfoldable pub IsMoves : MovesRead → Came Gone → Type 0
 IsMoves (MovesRead.Refused n p) (stopped m q arrays) = (n ≡ m) × (p ≡ q)
 IsMoves (MovesRead.Refused n p) (came gone arrays) = ⊥
 IsMoves (MovesRead.Walked w) (stopped m q arrays) = ⊥
 IsMoves (MovesRead.Walked w) (came gone arrays) = IsWalk w gone
-
-unfoldable pub walkOn : Walk → MadeStruct → Walk
-walkOn w m =
-    record {
-      place = m .next;
-      cost = w .cost + (m .enter + m .over);
-      added = w .added + m .added;
-      penalties = w .penalties + m .penalties;
-    }
-
--- a walk's numbers: of fewer than 2^20 moves
-pub record WalkFits (w : Walk) : Type 0 where
-  pub cost : w .cost < 2 ^ 38
-  pub added : w .added < 2 ^ 24
-  pub penalties : w .penalties < 2 ^ 20
 
 unfoldable pub MovesFit : MovesRead → Type 0
 MovesFit (MovesRead.Refused n p) = Unit
@@ -123,17 +96,6 @@ JoinFits most (Join.Joined w next) = WalkFits w × (next ≤ most)
 unfoldable pub flagOf : (bits : List ℕ) → (at : ℕ) → Flag
 flagOf bits at = cond (whole bits at 1) (cond (eqb (field bits at 1) 0) Flags.None Flags.Join) Flags.Cut
 
-abbrev pub totalsOf : TotalsStruct → Totals
-totalsOf t = record { cost = t .cost; added = t .added; penalties = t .penalties; joined = t .joined }
-
--- the totals of at most n records, and how far they reach
-pub record Bounded (n : ℕ) (totals : TotalsStruct) (at : ℕ) : Type 0 where
-  pub cost : totals .cost ≤ 2 ^ 38 * n
-  pub added : totals .added ≤ 2 ^ 24 * n
-  pub penalties : totals .penalties ≤ 2 ^ 20 * n
-  pub joined : totals .joined ≤ n
-  pub reach : at ≤ 2 ^ 23 * n
-
 -- refused alike, or the totals and the next bit
 unfoldable pub IsNet : NetRead → Came Ended → Type 0
 IsNet (NetRead.Refused n p) (stopped m q arrays) = (n ≡ m) × (p ≡ q)
@@ -147,18 +109,6 @@ NetFits n (NetRead.Ended totals next) = Bounded n totals next
 
 -- ---- all nets
 
--- a job that was read, with what the code holds of it: layers, marks, and the map's codes of its pins
-pub record NetsHeld (bytes : List ℕ) (tech : TechStruct) (marks codes : List ℕ) (count start : ℕ) : Type 0 where
-  pub job : Job
-  pub read : readJob bytes ≡ good job
-  pub layers : techBy tech ≡ techOf job
-  pub fits : TechFits tech
-  pub nets : length (job .nets) ≡ count
-  pub from : netsAt (jobHead job) ≡ start
-  pub marked : Marks (job .grid) (job .obstacles) (allPins (job .nets)) marks
-  pub coded : Codes (job .grid) (metalAtFirst job) codes
-  pub room : vertices (job .grid) ≤ length codes
-
 -- refused alike; or the totals and the next bit, and the codes are those of the metal
 unfoldable pub IsNets : Grid → NetRead → Read Progress → (codes : List ℕ) → Type 0
 IsNets g (NetRead.Refused n p) x codes = x ≡ refused n p
@@ -166,17 +116,6 @@ IsNets g (NetRead.Ended totals next) x codes =
     (all : Progress) × (x ≡ good all) × (totalsOf totals ≡ all .totals) × (next ≡ all .at) × Codes g (all .metal) codes
 
 -- ---- a whole plan
-
--- a job that was read, with what the code holds of it
-pub record PlanHeld (bytes : List ℕ) (tech : TechStruct) (marks map : List ℕ) (count start : ℕ) : Type 0 where
-  pub job : Job
-  pub read : readJob bytes ≡ good job
-  pub layers : techBy tech ≡ techOf job
-  pub fits : TechFits tech
-  pub nets : length (job .nets) ≡ count
-  pub from : netsAt (jobHead job) ≡ start
-  pub marked : Marks (job .grid) (job .obstacles) (allPins (job .nets)) marks
-  pub room : vertices (job .grid) ≤ length map
 
 -- refused alike, or the totals
 unfoldable pub IsReplayed : Replayed → Read Routed → Type 0

@@ -7,16 +7,17 @@ ghost use Rattle.job.specs.Grid.{vertices};
 ghost use Rattle.job.specs.Structs.{gridOf};
 ghost use Rattle.rules.specs.Seen.{viewBy};
 ghost use Rattle.rules.specs.Structs.{TechFits, techBy};
-ghost use Rattle.replay.specs.Following.{Came, Gone, arraysOf, costFrom, joinFrom};
+ghost use Rattle.walker.specs.Entering.{Gone};
+ghost use Rattle.replay.specs.Following.{Came, arraysOf, costFrom, joinFrom};
 ghost use Rattle.replay.specs.Structs.{IsMoves, MovesFit, IsJoin, JoinFits};
 use crate::moves::MovesRead;
-use crate::moves::Walk;
 use crate::moves::read_moves;
 use crate::start::StartRead;
 use crate::start::read_cost;
 use crate::start::read_start;
 use marks::reached::Reached;
 use rules::price::Tech;
+use walker::Walk;
 
 // The walk of a join, and the bit after it.
 pub enum JoinRead {

@@ -1,5 +1,16 @@
 -- What the proofs of the public calls lean on.
---     Sizes       what sizing answers
---     Replays     what replay answers
+--     Holding         what is held of a job that was read
+--     Sizes           what sizing answers
+--     Replays         what replay answers
+--     Ends            routing's outcome, by the ways in which it ends
+--     Routes          what the code of routing asks and leaves
+-- Theorems about routing's outcome:
+--     Promises        its plan is in the slice, cheapest, and replays
+--     MarkedRoutes    the marked routes
+mod Holding
 mod Sizes
 mod Replays
+mod Ends
+mod Routes
+pub mod Promises
+pub mod MarkedRoutes

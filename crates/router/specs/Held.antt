@@ -1,31 +1,66 @@
--- What the code holds of a job that was read, and its answer.
-use Prim.Native.Nat.{ℕ}
+-- What the code holds of a job that was read, and its answers.
+--     heldOf, JobHeld       a job's layers, needs and counts
+--     roomAnswer            whether its slices are long enough
+--     IsResult              the result of a plan's answer
+use Prim.Native.Nat.{ℕ, _+_, _*_}
 use mathlib.Core.Path.{_≡_}
 use mathlib.Core.List.{List}
-use Rattle.job.specs.Job.{Job}
-use Rattle.job.specs.Good.{allPins}
-use Rattle.job.specs.Reading.{Read, good, jobHead, readJob}
-use Rattle.job.specs.Structs.{headStruct, layersOf}
+use lib.ListN.{length}
+use Rattle.job.specs.Grid.{vertices}
+use Rattle.job.specs.Job.{Job, largestMinLength}
+use Rattle.job.specs.Good.{GoodJob, allPins}
+use Rattle.job.specs.Reading.{Read, refused, good, jobHead, netsAt, readJob}
+use Rattle.job.specs.Structs.{gridOf, headStruct, layersOf}
 use Rattle.job.specs.declared.groups.Head.{Head as HeadStruct}
 use Rattle.job.specs.declared.layers.Layers.{Layers}
+use Rattle.reader.specs.Structs.{largestIn}
 use Rattle.marks.specs.Marks.{Marks}
+use Rattle.rules.specs.Prices.{techOf}
 use Rattle.rules.specs.Routings.{Routed}
-use Rattle.rules.specs.declared.price.Tech.{Tech as TechStruct}
+use Rattle.rules.specs.Structs.{techBy, TechFits}
 use Rattle.replay.specs.Structs.{IsReplayed}
 use Rattle.replay.specs.declared.whole.Replayed.{Replayed}
+use Rattle.router.specs.Room.{workNeed}
 use Rattle.router.specs.Replay.{replayResult}
+use Rattle.router.specs.declared.held.Held.{Held}
+use Rattle.router.specs.declared.held.Room.{Room}
+use Rattle.router.specs.declared.held.Room.the-variants.{Enough, Short}
 use Rattle.router.specs.declared.replay_call.ReplayResult.{ReplayResult}
 
--- the bytes hold a good job, and these are its head, its layer lines and its marks
-pub record JobHolds (bytes marks : List ℕ) (head : HeadStruct) (layers : Layers) : Type 0 where
+-- a good job has this head and these layer lines
+pub record HeadHolds (head : HeadStruct) (layers : Layers) : Type 0 where
   pub job : Job
-  pub read : readJob bytes ≡ good job
+  pub rules : GoodJob job
   pub heads : head ≡ headStruct (jobHead job)
   pub lines : layers ≡ layersOf (job .lines)
-  pub marked : Marks (job .grid) (job .obstacles) (allPins (job .nets)) marks
 
-unfoldable pub techHeld : HeadStruct → Layers → TechStruct
-techHeld head layers = record { grid = head .grid; layers = layers; guide = head .guide; short = head .short }
+unfoldable pub heldOf : HeadStruct → Layers → Held
+heldOf head layers =
+    record {
+      tech = record { grid = head .grid; layers = layers; guide = head .guide; short = head .short };
+      largest = largestIn (layers .least);
+      vertices = vertices (gridOf (head .grid));
+      work = vertices (gridOf (head .grid)) * 4 * (largestIn (layers .least) + 1);
+      nets = head .nets;
+      from = 80 + 40 * head .grid .layers + 27 * head .obstacles;
+    }
+
+-- the bytes hold a good job, these are its marks, and the code holds its layers, its needs, and where its nets stand
+pub record JobHeld (bytes marks : List ℕ) (held : Held) : Type 0 where
+  pub job : Job
+  pub read : readJob bytes ≡ good job
+  pub marked : Marks (job .grid) (job .obstacles) (allPins (job .nets)) marks
+  pub layers : techBy (held .tech) ≡ techOf job
+  pub fits : TechFits (held .tech)
+  pub largest : held .largest ≡ largestMinLength (job .lines)
+  pub vertices : held .vertices ≡ vertices (job .grid)
+  pub work : held .work ≡ workNeed job
+  pub nets : length (job .nets) ≡ held .nets
+  pub from : netsAt (jobHead job) ≡ held .from
+
+unfoldable pub roomAnswer : Read Unit → Room
+roomAnswer (refused n p) = Short n p
+roomAnswer (good u) = Enough
 
 -- the result of whatever the plan's answer is
 abbrev pub IsResult : Replayed → ReplayResult → Type 0

@@ -1,15 +1,11 @@
--- The outcome of sizing: "the C++ host calls sizing with the job's bytes and gets the vertices and the work need, vertices × 4 ×
--- (largest M + 1) 64-bit numbers, or a refusal from 1 to 11."
-use Prim.Native.Nat.{ℕ, _+_, _*_}
+-- The outcome of sizing: "the C++ host calls sizing with the job's bytes and gets the vertices and the work need, or a refusal from 1 to 11."
+use Prim.Native.Nat.{ℕ}
 use mathlib.Core.List.{List}
 use Rattle.job.specs.Grid.{vertices}
-use Rattle.job.specs.Job.{Job, largestMinLength}
+use Rattle.job.specs.Job.{Job}
 use Rattle.job.specs.Reading.{Read, refused, good, readJob}
+use Rattle.router.specs.Room.{workNeed}
 use Rattle.router.specs.declared.sizing.SizingResult.{SizingResult}
-
--- how many 64-bit numbers of work a job needs
-unfoldable pub workNeed : Job → ℕ
-workNeed j = vertices (j .grid) * 4 * (largestMinLength (j .lines) + 1)
 
 -- on a refusal the last two numbers are 0, on success the first two
 unfoldable pub sized : Read Job → SizingResult

@@ -1,23 +1,16 @@
 // Replay: the map and the totals of a plan, or its refusal.
 ghost use mathlib.Core.Path.{_≡_};
-ghost use mathlib.Core.List.{List};
-ghost use Prim.Native.Nat.{_≤_, _+_, _*_};
-ghost use lib.ListN.{length};
-ghost use Rattle.job.specs.Job.{Job};
-ghost use Rattle.job.specs.Reading.{Read, good, readJob};
-ghost use Rattle.rules.specs.Routings.{Routed};
-ghost use Rattle.replay.specs.Structs.{IsReplayed};
-ghost use Rattle.router.specs.Replay.{refusedReplay, replayResult, replayJob, replayOf};
-ghost use Rattle.router.specs.Held.{JobHolds, techHeld, IsResult};
-use job::groups::Head;
-use job::layers::Layers;
+ghost use Rattle.router.specs.Replay.{refusedReplay, replayLeaves, replayOf};
+ghost use Rattle.router.specs.Held.{JobHeld, IsResult};
+use crate::held::Held;
+use crate::held::Room;
+use crate::held::held_of;
+use crate::held::room_for;
 use marks::reached::Reached;
 use metal::zeros::zero_words;
-use reader::layers::largest_least;
 use reader::whole::read_job;
 use replay::whole::Replayed;
 use replay::whole::replay_plan;
-use rules::price::Tech;
 
 // On a refusal every number but it and its place is 0.
 #[repr(C)]
@@ -59,18 +52,6 @@ fn result_of(replayed: Replayed) -> ReplayResult
     }
 }
 
-fn tech_of(head: Head, layers: Layers) -> Tech
-    ensures { λ r. ⌜ r ≡ techHeld head layers ⌝ }
-{
-    let grid = head.grid;
-    Tech {
-        grid,
-        layers,
-        guide: head.guide,
-        short: head.short,
-    }
-}
-
 // A job that was read: the slices are tested, then the plan is read.
 fn replay_job(
     bytes: &[u8],
@@ -78,37 +59,22 @@ fn replay_job(
     map: &mut [u16],
     work: &mut [u64],
     marks: &[u8; 16384],
-    head: Head,
-    layers: Layers,
+    held: Held,
 ) -> ReplayResult
-    requires { ⌜ JobHolds (now bytes) (now marks) head layers ⌝ }
-    ensures result { λ r. ⌜ ((j : Job) → readJob (now (bytes .entry)) ≡ good j
-        → r ≡ replayJob j (now (plan .entry)) (now (map .entry)) (now (work .entry)) .result) ⌝ }
-    ensures map { λ _. ⌜ ((j : Job) → readJob (now (bytes .entry)) ≡ good j
-        → now (map .exit) ≡ replayJob j (now (plan .entry)) (now (map .entry)) (now (work .entry)) .map) ⌝ }
-    ensures work { λ _. ⌜ ((j : Job) → readJob (now (bytes .entry)) ≡ good j
-        → now (work .exit) ≡ replayJob j (now (plan .entry)) (now (map .entry)) (now (work .entry)) .work) ⌝ }
+    requires { ⌜ JobHeld (now bytes) (now marks) held ⌝ }
+    ensures { λ r. ⌜ replayLeaves r (now (map .exit)) (now (work .exit))
+        ≡ replayOf (now (bytes .entry)) (now (plan .entry)) (now (map .entry)) (now (work .entry)) ⌝ }
 {
-    let vertices = head.grid.vertices();
-    let need = vertices * 4 * (largest_least(layers) + 1);
-    if map.len() < vertices {
-        return refused_replay(12, vertices);
+    let room = room_for(held.vertices, held.work, map, work);
+    match room {
+        Room::Short(refusal, need) => refused_replay(refusal, need),
+        Room::Enough => {
+            zero_words(work, held.work);
+            let tech = held.tech;
+            let replayed = replay_plan(bytes, tech, marks, map, plan, held.nets, held.from);
+            result_of(replayed)
+        }
     }
-    if work.len() < need {
-        return refused_replay(13, need);
-    }
-    zero_words(work, need);
-    let from = 80 + 40 * head.grid.layers + 27 * head.obstacles;
-    let replayed = replay_plan(
-        bytes,
-        tech_of(head, layers),
-        marks,
-        map,
-        plan,
-        head.nets,
-        from,
-    );
-    result_of(replayed)
 }
 
 #[no_mangle]
@@ -125,10 +91,13 @@ pub extern "C" fn maizespell_replay(
     let mut marks = [0u8; 16384];
     let read = read_job(bytes, &mut marks);
     let reached = read.reached;
-    let head = read.head;
-    let layers = read.layers;
     match reached {
         Reached::Refused(refusal, place) => refused_replay(refusal, place),
-        Reached::At(_end) => replay_job(bytes, plan, map, work, &marks, head, layers),
+        Reached::At(_end) => {
+            let head = read.head;
+            let layers = read.layers;
+            let held = held_of(head, layers);
+            replay_job(bytes, plan, map, work, &marks, held)
+        }
     }
 }

@@ -1,8 +1,8 @@
 // Sizing: how many vertices a job has, and how much work memory its routing needs.
 ghost use mathlib.Core.Path.{_≡_};
 ghost use Rattle.router.specs.Sizing.{sizingOf};
+use crate::held::held_of;
 use marks::reached::Reached;
-use reader::layers::largest_least;
 use reader::whole::read_job;
 
 // The refusal is 0 where the job is good, and so is its place; else vertices and work are 0.
@@ -23,13 +23,14 @@ pub extern "C" fn maizespell_sizing(bytes: &[u8]) -> SizingResult
     let reached = read.reached;
     match reached {
         Reached::At(_) => {
-            let vertices = read.head.grid.vertices();
-            let largest = largest_least(read.layers);
+            let head = read.head;
+            let layers = read.layers;
+            let held = held_of(head, layers);
             SizingResult {
                 refusal: 0,
                 place: 0,
-                vertices,
-                work: vertices * 4 * (largest + 1),
+                vertices: held.vertices,
+                work: held.work,
             }
         }
         Reached::Refused(refusal, place) => SizingResult {

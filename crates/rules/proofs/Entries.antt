@@ -11,12 +11,12 @@ use Rattle.rules.specs.Views.{pinsOf, viewOf}
 use Rattle.rules.specs.Prices.{techOf}
 use Rattle.rules.specs.Walks.{Walked, stuck, walked, startAt, walk}
 use Rattle.rules.specs.Joins.{Record, join, none, joinOf}
-use Rattle.rules.specs.Standings.{Standing, metalAtFirst, begun, joinedBy}
+use Rattle.rules.specs.Standings.{Standing, metalAtFirst, begun, joinedBy, Stands}
 use Rattle.rules.specs.Routings.{Entry, Totals, noTotals, withJoin, withNet, Routed, withEntry, afterJoin, byRecord, routeNet, routeNets, routing}
 use Rattle.rules.proofs.Techs.{good-tech}
 use Rattle.rules.proofs.Laid.{all-append}
 use Rattle.rules.proofs.Joins.{join-route}
-use Rattle.rules.proofs.Standing.{Stands, nets-apart, joined-apart}
+use Rattle.rules.proofs.Standing.{nets-apart, joined-apart}
 
 -- what stands before a record is apart, and the record is the join of it
 pub record Written (j : Job) (e : Entry) : Type 0 where

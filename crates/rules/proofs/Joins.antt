@@ -1,5 +1,4 @@
 -- The join that `joinOf` computes is the cheapest, and the only one.
---     Apart                    the vertices of a tree are of the grid, and none is an unjoined pin
 --     one-join                 there is one join at most
 --     join-is, join-only       `joinOf` is the join, and nothing else is
 --     join-route               its moves are a route
@@ -24,15 +23,11 @@ use Rattle.rules.specs.Views.{View, member}
 use Rattle.rules.specs.Segments.{Place}
 use Rattle.rules.specs.Prices.{Tech}
 use Rattle.rules.specs.Walks.{system, startAt, Rival, Route}
+use Rattle.rules.specs.Standings.{Apart}
 use Rattle.rules.specs.Joins.{Record, join, none, IsJoin, first, noRoute, places, starts, joinFrom, joinBy, joinOf}
 use Rattle.rules.specs.Places.{placeCode, GoodPlace, GoodTech}
 use Rattle.rules.proofs.Places.{start-good, places-small}
 use Rattle.rules.proofs.Lawful.{lawful, costs-small}
-
--- the vertices of a tree are of the grid, and none is an unjoined pin
-pub record Apart (t : Tech) (tree unjoined : List ℕ) : Type 0 where
-  pub onGrid : (v : ℕ) → member v tree ≡ true → v < vertices (t .grid)
-  pub noGoal : (v : ℕ) → member v tree ≡ true → member v unjoined ≡ false
 
 -- ---- any join
 

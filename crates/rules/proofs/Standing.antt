@@ -1,6 +1,5 @@
 -- The tree and the unjoined pins are apart in every standing.
 --     fails                        a test that fails, as an equation
---     Stands                       in a standing they are apart
 --     begun-apart                  before the first join of a net
 --     nets-apart, net-apart        of every net of a good job, and of the k-th
 --     distinct-both                vertices of two lists that are distinct
@@ -25,15 +24,10 @@ use Rattle.rules.specs.Views.{View, member, pinsOf}
 use Rattle.rules.specs.Segments.{Place}
 use Rattle.rules.specs.Prices.{Tech, techOf}
 use Rattle.rules.specs.Walks.{startAt, Route, Sum, walked, walk}
-use Rattle.rules.specs.Standings.{Standing, begun, without, joinedBy}
+use Rattle.rules.specs.Standings.{Standing, Stands, begun, without, joinedBy}
 use Rattle.rules.specs.Places.{GoodTech}
 use Rattle.rules.proofs.Members.{not-both, neither, member-none, member-here, member-append, member-all, without-one, without-less}
 use Rattle.rules.proofs.Walks.{Passed, Walks, route-walk}
-use Rattle.rules.proofs.Joins.{Apart}
-
--- the tree and the unjoined pins of a standing are apart
-abbrev pub Stands : Tech → Standing → Type 0
-Stands t s = Apart t (s .tree) (s .unjoined)
 
 -- ---- before the first join
 

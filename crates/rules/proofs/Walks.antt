@@ -2,12 +2,14 @@
 --     Legal, step-legal             a legal move, with all that it did
 --     Passed                        a vertex of the grid that is not blocked
 --     walk-on                       a walk by its first move and the rest
+--     First, walk-first             a walk taken apart after its first move
 --     Walks, route-walk             the walk of a route: its end, its cost, the vertices entered and the vertices laid
 use Prim.Native.Nat.{ℕ, _+_, _<_}
 use mathlib.Core.Path.{_≡_, refl, _∙_}
 use mathlib.Core.List.{List, [], _∷_, _++_}
 use mathlib.Core.Bool.{true, false}
 use native.Mathlib.Nat.{add-zero}
+use native.Mathlib.Omega.{arith}
 use Rattle.job.specs.Lists.{All}
 use Rattle.job.specs.Grid.{Grid, vertices}
 use Rattle.paths.specs.Systems.{to}
@@ -16,7 +18,7 @@ use Rattle.rules.specs.Views.{View, member}
 use Rattle.rules.specs.Segments.{Place}
 use Rattle.rules.specs.Prices.{Tech}
 use Rattle.rules.specs.Steps.{Made, Stepped, illegal, legal, step, priced}
-use Rattle.rules.specs.Walks.{system, startAt, Route, Sum, walked, nothingYet, withMade, after, goOn, walk}
+use Rattle.rules.specs.Walks.{system, startAt, Route, Walked, stuck, walked, Sum, nothingYet, withMade, after, goOn, walk}
 use Rattle.rules.specs.Places.{GoodPlace, GoodTech}
 use Rattle.rules.proofs.Places.{start-good}
 use Rattle.rules.proofs.Segments.{no-step, move-led}
@@ -56,6 +58,34 @@ pub walk-on : (t : Tech) (view : View) (p : Place) (m : ℕ) (ms : List ℕ) (ma
     → walk t view (made .next) ms ≡ walked last sum → walk t view p (m ∷ ms) ≡ walked last (withMade made sum)
 unfolding walk goOn after
 walk-on t view p m ms made is rest = rw (is, rest)
+
+-- a walk after its first move
+pub record First (t : Tech) (view : View) (p : Place) (m : ℕ) (ms : List ℕ) (last : Place) (sum : Sum) : Type 0 where
+  pub made : Made
+  pub rest : Sum
+  pub is : step t view p m ≡ legal made
+  pub goes : walk t view (made .next) ms ≡ walked last rest
+  pub sums : sum ≡ withMade made rest
+
+-- a walk taken apart
+pub walk-first : (t : Tech) (view : View) (p : Place) (m : ℕ) (ms : List ℕ) {last : Place} {sum : Sum} → walk t view p (m ∷ ms) ≡ walked last sum
+    → First t view p m ms last sum
+unfolding walk goOn after
+walk-first t view p m ms {last} {sum} e = by (step t view p m) refl e
+  where
+    not-stuck : stuck ≡ walked last sum → ⊥
+    not-stuck h = let z : _≡_ {A = ℕ} 0 1 = cc in omega arith
+
+    on : (made : Made) → step t view p m ≡ legal made → (w : Walked) → walk t view (made .next) ms ≡ w → after made w ≡ walked last sum
+        → First t view p m ms last sum
+    on made is stuck goes h = absurd (not-stuck h)
+    on made is (walked l s) goes h =
+        let same : l ≡ last = cc in
+        record { made = made; rest = s; is = is; goes = rw same at goes; sums = cc }
+
+    by : (s : Stepped) → step t view p m ≡ s → goOn (λ q. walk t view q ms) s ≡ walked last sum → First t view p m ms last sum
+    by illegal is h = absurd (not-stuck h)
+    by (legal made) is h = on made is (walk t view (made .next) ms) refl h
 
 -- ---- all moves
 

@@ -8,6 +8,14 @@
 --     Holding      what relaxing a place keeps
 --     Passing      turns of a pass
 --     Settling     passes until one changes nothing
+--     Starting     the best start, in the code's words
+--     Keeping      the lowest move that keeps a cost, in the code's words
+--     Tracing      following the table, move by move
+--     Writing      turns of writing the route
+--     Putting      fields put one after the other
+--     Joining      a record written from a chosen start
+--     Followed     the move that is followed, in the code's words
+--     Found        the join that the table and the bytes tell is the cheapest join of what stands
 pub mod Numbers
 pub mod Lowering
 pub mod Entries
@@ -17,3 +25,11 @@ pub mod Totals
 pub mod Holding
 pub mod Passing
 pub mod Settling
+pub mod Starting
+pub mod Keeping
+pub mod Tracing
+pub mod Writing
+pub mod Putting
+pub mod Joining
+pub mod Followed
+pub mod Found

@@ -3,24 +3,19 @@
 --     Settling, settling-begun, -on      so far the table is held
 --     settled-table                      a pass that changes nothing leaves a table of least costs
 use Prim.Native.Nat.{ℕ, _+_, _*_, _≤_}
-use mathlib.Core.Path.{_≡_, refl, _∙_}
+use mathlib.Core.Path.{_≡_, refl}
 use mathlib.Core.List.{List}
-use mathlib.Core.Bool.{Bool, true, false}
-use lib.ListN.{length, getD}
-use lib.Dec.{eqb}
+use mathlib.Core.Bool.{Bool}
+use lib.ListN.{length}
 use Rattle.job.specs.Grid.{vertices}
 use Rattle.job.specs.Structs.{gridOf}
 use Rattle.paths.specs.Distances.{Table}
-use Rattle.rules.specs.Views.{View, member}
-use Rattle.rules.specs.Segments.{Place}
+use Rattle.rules.specs.Views.{View}
 use Rattle.rules.specs.Prices.{Tech}
-use Rattle.rules.specs.Walks.{system}
 use Rattle.rules.specs.Joins.{places}
 use Rattle.rules.specs.Places.{GoodPlace, GoodTech}
 use Rattle.rules.specs.Structs.{techBy}
 use Rattle.rules.specs.declared.price.Tech.{Tech as TechStruct}
-use Rattle.tree.specs.Spots.{Spots}
-use Rattle.tree.proofs.Marked.{spot-goal}
 use Rattle.metal.specs.Codes.{Beyond, Bare}
 use Rattle.metal.proofs.Slices.{beyond-refl, beyond-trans}
 use Rattle.search.specs.Tables.{tableBy, systemBy, Searched}
@@ -48,20 +43,8 @@ module _ {t : Tech} {view : View} {spots found : List ℕ} where
       → Settling t view spots found after
   settling-on so-far pass = record { held = pass .held; kept = beyond-trans (pass .kept) (so-far .kept) }
 
--- costs that are what they would become are a table, whatever list the bytes hold
-pub settled-table : (t : Tech) (view : View) (spots work : List ℕ) → Still t view spots work → (tree unjoined : List ℕ)
-    → Spots (t .grid) tree unjoined spots → ((v : ℕ) → member v tree ≡ true → member v unjoined ≡ false)
-    → Table (system t view unjoined) (GoodPlace t) (tableBy t work)
+-- costs that are what they would become are a table
+pub settled-table : (t : Tech) (view : View) (spots work : List ℕ) → Still t view spots work
+    → Table (systemBy t view spots) (GoodPlace t) (tableBy t work)
 unfolding Still
-settled-table t view spots work still tree unjoined marked apart =
-    record {
-      goals = λ {s} fine g. told .goals fine (goal s fine ∙ g);
-      settled = λ {s} {m} fine g known. told .settled fine (goal s fine ∙ g) known;
-      supported = λ {s} {n} fine g is. told .supported fine (goal s fine ∙ g) is;
-    }
-  where
-    told : Table (systemBy t view spots) (GoodPlace t) (tableBy t work)
-    told = still-table (systemBy t view spots) (tableBy t work) still
-
-    goal : (p : Place) → GoodPlace t p → eqb (getD spots (p .vertex) 0) 2 ≡ member (p .vertex) unjoined
-    goal p fine = spot-goal (t .grid) tree unjoined spots (p .vertex) (apart (p .vertex)) (fine .vertex) marked
+settled-table t view spots work still = still-table (systemBy t view spots) (tableBy t work) still

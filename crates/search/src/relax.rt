@@ -1,21 +1,17 @@
 // Relaxation: the entry of each place is lowered to what its moves allow, pass after pass, until a whole pass changes nothing.
 ghost use mathlib.Core.Path.{_≡_};
-ghost use mathlib.Core.List.{List};
-ghost use mathlib.Core.Bool.{true, false, not};
-ghost use Prim.Native.Nat.{ℕ, _≤_, _<_};
+ghost use mathlib.Core.Bool.{not};
+ghost use Prim.Native.Nat.{_≤_, _<_};
 ghost use lib.ListN.{length, getD, set};
 ghost use lib.Dec.{eqb};
 ghost use Rattle.job.specs.Structs.{gridOf};
 ghost use Rattle.paths.specs.Distances.{Table};
-ghost use Rattle.rules.specs.Views.{member};
-ghost use Rattle.rules.specs.Walks.{system};
 ghost use Rattle.rules.specs.Seen.{viewBy};
 ghost use Rattle.rules.specs.Joins.{places};
 ghost use Rattle.rules.specs.Places.{GoodPlace};
 ghost use Rattle.rules.specs.Structs.{techBy};
-ghost use Rattle.tree.specs.Spots.{Spots};
 ghost use Rattle.metal.specs.Codes.{Beyond, Bare};
-ghost use Rattle.search.specs.Tables.{tableBy, loweredEntry, Searched, Readable};
+ghost use Rattle.search.specs.Tables.{tableBy, systemBy, loweredEntry, Searched, Readable};
 ghost use Rattle.search.specs.Passes.{turned, Held, Passed};
 use crate::places::place_of;
 use crate::table::lowered_entry;
@@ -88,10 +84,8 @@ pub fn settle(tech: Tech, seen: &[u8; 16384], spots: &[u8; 16384], largest: usiz
     requires { ⌜ (Searched tech largest) × (places (techBy tech) ≤ length (now work)) × (Bare (places (techBy tech)) (now work)) ⌝ }
     ensures kept { λ _. ⌜ Beyond (places (techBy tech)) (now (work .exit)) (now (work .entry)) ⌝ }
     ensures small { λ _. ⌜ Readable (techBy tech) (now (work .exit)) ⌝ }
-    ensures table { λ _. ⌜ ((tree unjoined : List ℕ) → Spots (gridOf (tech .grid)) tree unjoined (now (spots .entry))
-        → ((v : ℕ) → member v tree ≡ true → member v unjoined ≡ false)
-        → Table (system (techBy tech) (viewBy (gridOf (tech .grid)) (now (seen .entry))) unjoined) (GoodPlace (techBy tech))
-        (tableBy (techBy tech) (now (work .exit)))) ⌝ }
+    ensures table { λ _. ⌜ Table (systemBy (techBy tech) (viewBy (gridOf (tech .grid)) (now (seen .entry))) (now (spots .entry))) (GoodPlace (techBy tech))
+        (tableBy (techBy tech) (now (work .exit))) ⌝ }
 {
     let count = tech.grid.vertices() * 2 * (largest + 1);
     let mut backward = false;

@@ -40,7 +40,7 @@ pub fn entry_of(largest: usize, work: &[u64], place: Place) -> u64
 }
 
 // The cost by a move: its price and the cost of the place that it leads to.
-fn entry_by(
+pub fn entry_by(
     tech: Tech,
     seen: &[u8; 16384],
     largest: usize,

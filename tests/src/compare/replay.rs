@@ -1,9 +1,9 @@
 //! A replay beside the second one: its answer and the whole of both slices.
 
-mod tally;
+use std::fmt;
 
-pub use tally::{Difference, Tally};
-
+use super::report::{write_apart, write_bytes, Apart};
+use super::tally::{self, Tally};
 use crate::library::ReplayResult;
 use crate::replay::{replay, Replay};
 
@@ -44,7 +44,7 @@ pub struct Comparison {
     replay: Replay,
     expected: Answer,
     given: Answer,
-    pub tally: Tally,
+    pub tally: Tally<Difference>,
 }
 
 impl Comparison {
@@ -63,7 +63,7 @@ impl Comparison {
         self.expected.ask(replay, case);
         self.given.ask(self.replay, case);
         let result = self.expected.result;
-        self.tally.count(&result);
+        self.tally.count(result.refusal, result.place);
         if let Some(difference) = self.difference(case) {
             self.tally.keep(difference);
         }
@@ -77,8 +77,9 @@ impl Comparison {
 
     fn difference(&self, case: &Case) -> Option<Difference> {
         let (expected, given) = (&self.expected, &self.given);
-        let same_slices = expected.map == given.map && expected.work == given.work;
-        if same_slices && expected.result == given.result {
+        let map = Apart::of(&expected.map, &given.map);
+        let work = Apart::of(&expected.work, &given.work);
+        if map.is_none() && work.is_none() && expected.result == given.result {
             return None;
         }
         Some(Difference {
@@ -87,14 +88,37 @@ impl Comparison {
             plan: case.plan.to_vec(),
             expected: expected.result,
             given: given.result,
-            map: first_difference(&expected.map, &given.map),
-            work: first_difference(&expected.work, &given.work),
+            map,
+            work,
         })
     }
 }
 
-fn first_difference<T: Copy + PartialEq>(expected: &[T], given: &[T]) -> Option<(usize, T, T)> {
-    let mut pairs = expected.iter().zip(given).enumerate();
-    let (index, (expected, given)) = pairs.find(|(_, (expected, given))| expected != given)?;
-    Some((index, *expected, *given))
+/// A pair of job and plan on which the two answers differ.
+pub struct Difference {
+    kind: &'static str,
+    job: Vec<u8>,
+    plan: Vec<u8>,
+    expected: ReplayResult,
+    given: ReplayResult,
+    map: Option<Apart<u16>>,
+    work: Option<Apart<u64>>,
+}
+
+impl tally::Difference for Difference {
+    fn bytes(&self) -> usize {
+        self.job.len() + self.plan.len()
+    }
+}
+
+impl fmt::Display for Difference {
+    fn fmt(&self, f: &mut fmt::Formatter) -> fmt::Result {
+        writeln!(f, "the answers differ on a plan: {}", self.kind)?;
+        writeln!(f, "  expected {:?}", self.expected)?;
+        writeln!(f, "  given    {:?}", self.given)?;
+        write_apart(f, "map", &self.map)?;
+        write_apart(f, "work", &self.work)?;
+        write_bytes(f, "job", &self.job)?;
+        write_bytes(f, "plan", &self.plan)
+    }
 }

@@ -29,6 +29,16 @@ pub fn any_routable_job(random: &mut Random) -> Job {
     }
 }
 
+/// A job as `any_routable_job` makes it, but most often so small that thousands
+/// are routed in a second.
+pub fn quick_routable_job(random: &mut Random) -> Job {
+    match random.between(0, 399) {
+        0..=339 => routable_job(Size::Tiny, random),
+        340..=398 => routable_job(Size::Small, random),
+        _ => routable_job(Size::Medium, random),
+    }
+}
+
 pub fn routable_job(size: Size, random: &mut Random) -> Job {
     let grid = grid(size, random);
     let obstacles = obstacles(&grid, random);
@@ -73,7 +83,7 @@ fn grid(size: Size, random: &mut Random) -> Grid {
 }
 
 /// A penalty that is closed at times and else, where prices are close, low.
-fn priced(close: bool, most: u32, random: &mut Random) -> u32 {
+pub(super) fn priced(close: bool, most: u32, random: &mut Random) -> u32 {
     if !close {
         return penalty(random);
     }
@@ -83,7 +93,7 @@ fn priced(close: bool, most: u32, random: &mut Random) -> u32 {
     random.edgy(0, most)
 }
 
-fn close_layers(size: Size, count: u32, random: &mut Random) -> Vec<Layer> {
+pub(super) fn close_layers(size: Size, count: u32, random: &mut Random) -> Vec<Layer> {
     let longest = match size {
         Size::Tiny => random.between(1, 4),
         _ => *random.pick(&[2, 3, 5, 15]),
@@ -138,7 +148,7 @@ fn nets(size: Size, grid: &Grid, obstacles: &[Obstacle], random: &mut Random) ->
 }
 
 /// A box with all pins, grown a little at some of its sides.
-fn box_around(pins: &[Vertex], grid: &Grid, random: &mut Random) -> GuideBox {
+pub(super) fn box_around(pins: &[Vertex], grid: &Grid, random: &mut Random) -> GuideBox {
     let mut range = |of: fn(&Vertex) -> u32, end: u32| {
         let low = pins.iter().map(of).min().expect("a net has pins");
         let high = pins.iter().map(of).max().expect("a net has pins");

@@ -29,7 +29,8 @@ const PLACE_BITS: u32 = 19;
 /// Tables with one entry a place, numbered by vertex, then segment.
 pub struct Search<'a> {
     board: &'a Board<'a>,
-    segments: usize,
+    /// Low bits of a place's number, which hold its segment.
+    segment_bits: u32,
     cost: Vec<u64>,
     on_cheapest: Vec<bool>,
     reached: Vec<u32>,
@@ -38,12 +39,12 @@ pub struct Search<'a> {
 
 impl<'a> Search<'a> {
     pub fn new(board: &'a Board<'a>) -> Self {
-        let segments = board.segments();
-        let places = board.vertices() * segments;
+        let segment_bits = board.segments().next_power_of_two().trailing_zeros();
+        let places = board.vertices() << segment_bits;
         assert!(places <= 1 << PLACE_BITS);
         Search {
             board,
-            segments,
+            segment_bits,
             cost: vec![UNREACHED; places],
             on_cheapest: vec![false; places],
             reached: Vec::new(),
@@ -61,13 +62,15 @@ impl<'a> Search<'a> {
     }
 
     fn number(&self, place: Place) -> usize {
-        place.vertex * self.segments + place.segment.code() as usize
+        place.vertex << self.segment_bits | place.segment.code() as usize
     }
 
     fn numbered(&self, number: usize) -> Place {
+        let vertex = number >> self.segment_bits;
+        let code = number - (vertex << self.segment_bits);
         Place {
-            vertex: number / self.segments,
-            segment: Segment::coded((number % self.segments) as u32),
+            vertex,
+            segment: Segment::coded(code as u32),
         }
     }
 
@@ -120,7 +123,7 @@ impl<'a> Search<'a> {
         let mut marked: Vec<usize> = Vec::new();
         for number in &self.reached {
             let number = *number as usize;
-            if self.cost[number] == cost && net.unjoined(number / self.segments) {
+            if self.cost[number] == cost && net.unjoined(number >> self.segment_bits) {
                 self.on_cheapest[number] = true;
                 marked.push(number);
             }
@@ -135,11 +138,12 @@ impl<'a> Search<'a> {
     /// Marks the places from which this move leads to a marked one as cheaply as
     /// that can be reached.
     fn mark_before(&mut self, net: &NetAtHand, to: usize, by: Move, marked: &mut Vec<usize>) {
-        let vertex = to / self.segments;
+        let vertex = to >> self.segment_bits;
         let Some(before) = self.board.neighbours.entered(vertex, by.opposite()) else {
             return;
         };
-        for number in before * self.segments..(before + 1) * self.segments {
+        let first = before << self.segment_bits;
+        for number in first..first + self.board.segments() {
             if self.cost[number] >= self.cost[to] || self.on_cheapest[number] {
                 continue;
             }

@@ -10,7 +10,7 @@ pub struct Board<'a> {
     obstacle: Vec<bool>,
     /// The net that has its pin here, counted from 1; 0 for none.
     pin_of: Vec<u16>,
-    vertices_of_a_layer: usize,
+    layer_of: Vec<u8>,
 }
 
 impl<'a> Board<'a> {
@@ -22,7 +22,9 @@ impl<'a> Board<'a> {
             neighbours: Neighbours::of(&grid),
             obstacle: vec![false; vertices],
             pin_of: vec![0; vertices],
-            vertices_of_a_layer: (grid.rows * grid.columns) as usize,
+            layer_of: (0..grid.vertices())
+                .map(|number| grid.numbered(number).layer as u8)
+                .collect(),
         };
         for obstacle in &job.obstacles {
             for step in 0..obstacle.run {
@@ -60,12 +62,15 @@ impl<'a> Board<'a> {
     }
 
     pub fn layer(&self, vertex: usize) -> &'a Layer {
-        &self.job.layers[vertex / self.vertices_of_a_layer]
+        &self.job.layers[usize::from(self.layer_of[vertex])]
     }
 
     /// "No boxes: the whole grid is inside the guide."
     pub fn in_guide(&self, net: u16, vertex: usize) -> bool {
         let boxes = &self.job.nets[net as usize - 1].boxes;
+        if boxes.is_empty() {
+            return true;
+        }
         let v = self.job.grid().numbered(vertex as u32);
         let holds = |guide: &GuideBox| {
             let GuideBox { low, high } = guide;
@@ -73,6 +78,6 @@ impl<'a> Board<'a> {
                 && (low.row..=high.row).contains(&v.row)
                 && (low.column..=high.column).contains(&v.column)
         };
-        boxes.is_empty() || boxes.iter().any(holds)
+        boxes.iter().any(holds)
     }
 }

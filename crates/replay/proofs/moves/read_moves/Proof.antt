@@ -17,12 +17,15 @@ Inv-loop tech seen spots₀ map₀ plan net count from start walk₀ at₀ left�
 abbrev μ-loop : tie.MeasureT-loop
 μ-loop tech seen spots₀ map₀ plan net count from start walk₀ at₀ left₀ spots map walk at left = left
 
+walk-from-requires : tie.Need-walk-from-requires Inv-loop μ-loop
+walk-from-requires c κs = search needs
+
 loop-holds : tie.Need-loop-holds Inv-loop μ-loop
-loop-holds c = walking-begun _ _ _ _ _ _ _ _ (c .before .before .pre .2)
+loop-holds c = walking-begun _ _ _ _ _ _ _ _ (c .walk-from .ensures) (c .before .before .before .pre .2)
 
 judge-move-requires : tie.Need-judge-move-requires Inv-loop μ-loop
 judge-move-requires c κs =
-    (record { tech = c .before .before .before .before .before .before .pre .0; place = c .before .before .before .loop .inv .place }, omega (arith, c .before .before .before .loop .inv .next, c .before .before .before .before .before .before .pre .3, c .before .before .before .before .before .before .pre .4))
+    (record { tech = c .before .before .before .before .before .before .before .pre .0; place = c .before .before .before .loop .inv .made .place }, omega (arith, c .before .before .before .loop .inv .next, c .before .before .before .before .before .before .before .pre .3, c .before .before .before .before .before .before .before .pre .4))
 
 enum-known-judged : tie.Need-enum-known-judged Inv-loop μ-loop
 enum-known-judged c = search needs
@@ -30,16 +33,16 @@ enum-known-judged c = search needs
 enter-move-requires : tie.Need-enter-move-requires Inv-loop μ-loop
 unfolding techBy
 enter-move-requires c κs =
-    let new = move-fits _ _ _ _ _ _ _ _ (c .before .before .before .before .before .before .before .before .before .loop .inv) (c .before .before .before .before .before .before .before .before .loop-test .taken) _ (c .before .before .before .before .before .judge-move .ensures) (c .before .before .before .judged .given .1) (c .before .before .before .before .before .before .before .before .before .before .before .before .pre .0) in
-    (c .before .before .before .before .before .before .before .before .before .before .before .before .pre .0 .sized, c .before .before .before .before .before .before .before .before .before .loop .inv .place .vertex, new .place .vertex, omega (arith, c .before .before .before .before .before .before .before .before .before .before .before .before .pre .1, c .before .before .before .before .before .before .before .before .before .loop .inv .size))
+    let new = move-fits _ _ _ _ _ _ _ _ (c .before .before .before .before .before .before .before .before .before .loop .inv) (c .before .before .before .before .before .before .before .before .loop-test .taken) _ _ (c .before .before .before .before .before .judge-move .ensures) (c .before .before .before .judged .given .1) (c .before .before .before .before .before .before .before .before .before .before .before .before .before .pre .0) in
+    (c .before .before .before .before .before .before .before .before .before .before .before .before .before .pre .0 .sized, c .before .before .before .before .before .before .before .before .before .loop .inv .made .place .vertex, new .place .vertex, omega (arith, c .before .before .before .before .before .before .before .before .before .before .before .before .before .pre .1, c .before .before .before .before .before .before .before .before .before .loop .inv .size))
 
 walk-on-requires : tie.Need-walk-on-requires Inv-loop μ-loop
 walk-on-requires c κs =
-    let new = move-fits _ _ _ _ _ _ _ _ (c .before .before .before .before .before .before .before .before .before .before .before .before .loop .inv) (c .before .before .before .before .before .before .before .before .before .before .before .loop-test .taken) _ (c .before .before .before .before .before .before .before .before .judge-move .ensures) (c .before .before .before .before .before .before .judged .given .1) (c .before .before .before .before .before .before .before .before .before .before .before .before .before .before .before .pre .0) in
+    let new = move-fits _ _ _ _ _ _ _ _ (c .before .before .before .before .before .before .before .before .before .before .before .before .loop .inv) (c .before .before .before .before .before .before .before .before .before .before .before .loop-test .taken) _ _ (c .before .before .before .before .before .before .before .before .judge-move .ensures) (c .before .before .before .before .before .before .judged .given .1) (c .before .before .before .before .before .before .before .before .before .before .before .before .before .before .before .before .pre .0) in
     let inv = c .before .before .before .before .before .before .before .before .before .before .before .before .loop .inv in (
-      omega (arith, inv .cost, c .before .before .before .before .before .before .before .before .before .before .before .before .before .before .before .pre .3),
-      omega (arith, inv .added, c .before .before .before .before .before .before .before .before .before .before .before .before .before .before .before .pre .3),
-      omega (arith, inv .penalties, c .before .before .before .before .before .before .before .before .before .before .before .before .before .before .before .pre .3),
+      omega (arith, inv .made .cost, c .before .before .before .before .before .before .before .before .before .before .before .before .before .before .before .before .pre .3),
+      omega (arith, inv .made .added, c .before .before .before .before .before .before .before .before .before .before .before .before .before .before .before .before .pre .3),
+      omega (arith, inv .made .penalties, c .before .before .before .before .before .before .before .before .before .before .before .before .before .before .before .before .pre .3),
       omega (arith, new .price),
       omega (arith, new .price),
       omega (arith, new .added),
@@ -56,7 +59,7 @@ returns : tie.Need-returns Inv-loop μ-loop
 returns c = walking-refused _ _ _ _ _ _ _ _ (c .before .before .before .before .before .before .before .loop .inv) (c .before .before .before .before .before .before .loop-test .taken) (c .before .before .before .judge-move .ensures) refl (c .before .judged2 .given .1)
 
 add-at : tie.Need-add-at Inv-loop μ-loop
-add-at c = omega (arith, c .before .before .before .before .before .before .before .before .before .before .before .before .before .loop .inv .next, c .before .before .before .before .before .before .before .before .before .before .before .before .before .before .before .before .pre .3, c .before .before .before .before .before .before .before .before .before .before .before .before .before .before .before .before .pre .4)
+add-at c = omega (arith, c .before .before .before .before .before .before .before .before .before .before .before .before .before .loop .inv .next, c .before .before .before .before .before .before .before .before .before .before .before .before .before .before .before .before .before .pre .3, c .before .before .before .before .before .before .before .before .before .before .before .before .before .before .before .before .before .pre .4)
 
 sub-left : tie.Need-sub-left Inv-loop μ-loop
 sub-left c = c .before .before .before .before .before .before .before .before .before .before .before .before .loop-test .taken
@@ -66,16 +69,16 @@ loop-less c = omega (arith, c .before .before .before .before .before .before .b
 
 loop-again : tie.Need-loop-again Inv-loop μ-loop
 loop-again c =
-    walking-on _ _ _ _ _ _ _ _ (c .before .before .before .before .before .before .before .before .before .before .before .before .before .loop .inv) (c .before .before .before .before .before .before .before .before .before .before .before .before .loop-test .taken) _ (c .before .before .before .before .before .before .before .before .before .judge-move .ensures) (c .before .before .before .before .before .before .before .judged .given .1) (c .before .before .before .before .before .before .before .before .before .before .before .before .before .before .before .before .pre .0) refl
+    walking-on _ _ _ _ _ _ _ _ (c .before .before .before .before .before .before .before .before .before .before .before .before .before .loop .inv) (c .before .before .before .before .before .before .before .before .before .before .before .before .loop-test .taken) _ _ (c .before .before .before .before .before .before .before .before .before .judge-move .ensures) (c .before .before .before .before .before .before .before .judged .given .1) (c .before .before .before .before .before .before .before .before .before .before .before .before .before .before .before .before .before .pre .0) refl
     (c .before .before .before .enter-move .ensures .1) (c .before .before .before .enter-move .ensures .0) (c .walk-on .ensures)
 
 same-length-2 : tie.Need-same-length-2 Inv-loop μ-loop
 same-length-2 c = search needs
 
 returns-2 : tie.Need-returns-2 Inv-loop μ-loop
-returns-2 c = walking-done _ _ _ _ _ _ _ _ (c .before .loop .inv) (c .loop-test .left) (c .before .before .before .before .pre .3)
+returns-2 c = walking-done _ _ _ _ _ _ _ _ (c .before .loop .inv) (c .loop-test .left) (c .before .before .before .before .before .pre .3)
 
 pub read-moves-spec : {M : Type 1} → statement M
 read-moves-spec =
-    tie.close (tie.spec Inv-loop μ-loop loop-holds judge-move-requires enum-known-judged enter-move-requires walk-on-requires enum-known-judged-2
+    tie.close (tie.spec Inv-loop μ-loop walk-from-requires loop-holds judge-move-requires enum-known-judged enter-move-requires walk-on-requires enum-known-judged-2
     same-length returns add-at sub-left loop-less loop-again same-length-2 returns-2)

@@ -8,7 +8,8 @@ use Rattle.bits.specs.Bits.{bitsOf}
 use Rattle.bits.proofs.Laws.{bitsOf-bits}
 use Rattle.job.specs.Structs.{gridOf}
 use Rattle.rules.specs.Seen.{viewBy}
-use Rattle.replay.specs.Structs.{totalsOf, JoinFits}
+use Rattle.walker.specs.Structs.{totalsOf}
+use Rattle.replay.specs.Structs.{JoinFits}
 use Rattle.replay.proofs.Recording.{Recording, recording-begun, recording-joined, recording-cut, recording-none, recording-refused, recording-on, recording-done}
 use Rattle.replay.proofs.net.read_records.Statement.{statement}
 use Rattle.replay.proofs.net.read_records.Tie as tie

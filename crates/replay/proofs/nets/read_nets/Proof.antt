@@ -5,7 +5,8 @@ use borrow.Author.Needs.{needs}
 use Rattle.bits.specs.Bits.{bitsOf}
 use Rattle.bits.proofs.Laws.{bitsOf-bits}
 use Rattle.replay.specs.Structs.{NetFits}
-use Rattle.replay.proofs.Netting.{Netting, netting-begun, net-below, nets-sized, hand-held, pins-fit, boxes-few, netting-room, bounded-next, netting-refused, netting-kept, netting-on, netting-done, fits-all, ended-all}
+use Rattle.walker.proofs.Nets.{nets-sized, nets-room, nets-kept, net-below, hand-held, pins-fit, boxes-few}
+use Rattle.replay.proofs.Netting.{Netting, netting-begun, bounded-next, netting-refused, netting-kept, netting-on, netting-done, fits-all}
 use Rattle.replay.proofs.nets.read_nets.Statement.{statement}
 use Rattle.replay.proofs.nets.read_nets.Tie as tie
 
@@ -24,23 +25,23 @@ loop-holds c = netting-begun _ _ _ _ _ _ (c .before .before .before .before .pre
 
 load-net-requires : tie.Need-load-net-requires Inv-loop μ-loop
 load-net-requires c κs =
-    let fits = nets-sized _ _ _ _ _ _ (c .before .before .before .loop .inv) in
-    (fits .sized .small, fits .short, hand-held _ _ _ _ _ _ (c .before .before .before .loop .inv) (c .before .before .loop-test .taken) .room)
+    let fits = nets-sized _ _ _ _ (c .before .before .before .loop .inv .held) in
+    (fits .sized .small, fits .short, hand-held _ _ _ _ _ (c .before .before .before .loop .inv .nets) (c .before .before .loop-test .taken) .room)
 
 add-net : tie.Need-add-net Inv-loop μ-loop
-add-net c = omega (arith, net-below _ _ _ _ _ _ (c .before .before .before .before .loop .inv) (c .before .before .before .loop-test .taken))
+add-net c = omega (arith, net-below _ _ _ _ _ (c .before .before .before .before .loop .inv .nets) (c .before .before .before .loop-test .taken))
 
 see-net-requires : tie.Need-see-net-requires Inv-loop μ-loop
 see-net-requires c κs =
     let inv = c .before .before .before .before .before .before .before .before .loop .inv in
     let some = c .before .before .before .before .before .before .before .loop-test .taken in
     let loaded = c .before .before .before .before .load-net .ensures in
-    let own = pins-fit _ _ _ _ _ _ inv some (loaded .0) (loaded .1 .0) (loaded .1 .1) in (
+    let own = pins-fit _ _ _ _ _ (inv .nets) some (loaded .0) (loaded .1 .0) (loaded .1 .1) in (
       (
-        nets-sized _ _ _ _ _ _ inv .sized,
-        netting-room _ _ _ _ _ _ inv,
+        nets-sized _ _ _ _ (inv .held) .sized,
+        nets-room _ _ _ _ _ (inv .nets),
         own .few,
-        boxes-few _ _ _ _ _ _ inv some (loaded .0) (loaded .1 .0) (loaded .1 .1),
+        boxes-few _ _ _ _ _ (inv .nets) some (loaded .0) (loaded .1 .0) (loaded .1 .1),
       ),
       own .onGrid,
     )
@@ -51,9 +52,9 @@ read-net-requires c κs =
     let some = c .before .before .before .before .before .before .before .before .before .before .before .loop-test .taken in
     let loaded = c .before .before .before .before .before .before .before .before .load-net .ensures in (
       inv .held .fits,
-      netting-room _ _ _ _ _ _ inv,
-      pins-fit _ _ _ _ _ _ inv some (loaded .0) (loaded .1 .0) (loaded .1 .1),
-      omega (arith, net-below _ _ _ _ _ _ inv some),
+      nets-room _ _ _ _ _ (inv .nets),
+      pins-fit _ _ _ _ _ (inv .nets) some (loaded .0) (loaded .1 .0) (loaded .1 .1),
+      omega (arith, net-below _ _ _ _ _ (inv .nets) some),
       bounded-next _ _ _ _ _ _ inv,
     )
 
@@ -99,12 +100,12 @@ loop-again c =
     (c .before .before .before .before .before .read-net .ensures .1 .1) (c .before .read2 .given .1) (c .before .before .before .before .before .read-net .ensures .1 .0)
 
 same-length-2 : tie.Need-same-length-2 Inv-loop μ-loop
-same-length-2 c = ended-all _ _ _ _ _ _ (c .before .loop .inv) .size
+same-length-2 c = nets-kept _ _ _ _ _ (c .before .loop .inv .nets) .size
 
 returns-2 : tie.Need-returns-2 Inv-loop μ-loop
 returns-2 c =
     let inv = c .before .loop .inv in
-    (netting-done _ _ _ _ _ _ inv (c .loop-test .left), (fits-all _ _ _ _ _ _ inv, ended-all _ _ _ _ _ _ inv))
+    (netting-done _ _ _ _ _ _ inv (c .loop-test .left), (fits-all _ _ _ _ _ _ inv, nets-kept _ _ _ _ _ (inv .nets)))
 
 pub read-nets-spec : {M : Type 1} → statement M
 read-nets-spec =

@@ -2,7 +2,8 @@
 use mathlib.Core.Path.{ap, _∙_}
 use native.Mathlib.Omega.{arith}
 use borrow.Author.Needs.{needs}
-use Rattle.replay.proofs.Wholes.{plan-room, pins-held, nets-held, plan-answer, after-long, plan-map, count-zeroed, count-finished, bare-long}
+use Rattle.walker.proofs.Wholes.{plan-room, pins-held, nets-held, after-long, count-zeroed, bare-long}
+use Rattle.replay.proofs.Wholes.{plan-answer, plan-map, count-finished}
 use Rattle.replay.proofs.whole.replay_plan.Statement.{statement}
 use Rattle.replay.proofs.whole.replay_plan.Tie as tie
 
@@ -27,7 +28,7 @@ finish-map-requires : tie.Need-finish-map-requires
 finish-map-requires c κs =
     rw (c .before .before .before .before .before .before .before .before .before .before .before .before .before .before .vertices .ensures) (
       c .before .before .before .before .before .before .before .before .before .before .before .before .before .before .before .before .before .before .pre .fits .sized .vertices,
-      after-long _ _ _ _ _ _ (c .before .before .before .before .before .before .before .before .before .before .before .before .before .before .before .before .before .before .pre) (count-zeroed _ (c .before .before .before .before .before .before .before .before .before .before .before .before .before .before .vertices .ensures) (c .before .before .before .before .before .before .before .before .before .before .before .before .zero-codes .ensures)) (c .before .before .before .before .before .before .before .before .lay-all-pins .ensures .0) (c .before .before .before .before .before .before .before .before .lay-all-pins .ensures .1)
+      after-long _ _ _ _ _ _ (c .before .before .before .before .before .before .before .before .before .before .before .before .before .before .before .before .before .before .pre) (count-zeroed _ (c .before .before .before .before .before .before .before .before .before .before .before .before .before .before .vertices .ensures) (c .before .before .before .before .before .before .before .before .before .before .before .before .zero-codes .ensures)) (c .before .before .before .before .before .before .before .before .lay-all-pins .ensures .0)
           (c .before .before .before .before .read-nets .ensures .1 .1),
     )
 
@@ -36,10 +37,10 @@ same-length c = search needs
 
 returns : tie.Need-returns
 returns c = (
-  plan-answer _ _ _ _ _ _ (c .before .before .before .before .before .before .before .before .before .before .before .before .before .before .before .before .before .before .before .before .before .pre) (count-zeroed _ (c .before .before .before .before .before .before .before .before .before .before .before .before .before .before .before .before .before .vertices .ensures) (c .before .before .before .before .before .before .before .before .before .before .before .before .before .before .before .zero-codes .ensures)) (c .before .before .before .before .before .before .before .before .before .before .before .lay-all-pins .ensures .0) (c .before .before .before .before .before .before .before .before .before .before .before .lay-all-pins .ensures .1)
+  plan-answer _ _ _ _ _ _ (c .before .before .before .before .before .before .before .before .before .before .before .before .before .before .before .before .before .before .before .before .before .pre) (count-zeroed _ (c .before .before .before .before .before .before .before .before .before .before .before .before .before .before .before .before .before .vertices .ensures) (c .before .before .before .before .before .before .before .before .before .before .before .before .before .before .before .zero-codes .ensures)) (c .before .before .before .before .before .before .before .before .before .before .before .lay-all-pins .ensures .0)
       _ _ _ (c .before .before .before .before .before .before .before .read-nets .ensures .0) (c .before .before .before .before .before .before .before .read-nets .ensures .1 .1) (c .before .before .before .before .end-plan .ensures)
       (count-finished _ _ _ (c .before .before .before .before .before .before .before .before .before .before .before .before .before .before .before .before .before .vertices .ensures) (c .before .before .finish-map .ensures)),
-  plan-map _ _ _ _ _ _ (c .before .before .before .before .before .before .before .before .before .before .before .before .before .before .before .before .before .before .before .before .before .pre) (count-zeroed _ (c .before .before .before .before .before .before .before .before .before .before .before .before .before .before .before .before .before .vertices .ensures) (c .before .before .before .before .before .before .before .before .before .before .before .before .before .before .before .zero-codes .ensures)) (c .before .before .before .before .before .before .before .before .before .before .before .lay-all-pins .ensures .0) (c .before .before .before .before .before .before .before .before .before .before .before .lay-all-pins .ensures .1)
+  plan-map _ _ _ _ _ _ (c .before .before .before .before .before .before .before .before .before .before .before .before .before .before .before .before .before .before .before .before .before .pre) (count-zeroed _ (c .before .before .before .before .before .before .before .before .before .before .before .before .before .before .before .before .before .vertices .ensures) (c .before .before .before .before .before .before .before .before .before .before .before .before .before .before .before .zero-codes .ensures)) (c .before .before .before .before .before .before .before .before .before .before .before .lay-all-pins .ensures .0)
       _ _ _ (c .before .before .before .before .before .before .before .read-nets .ensures .0) (c .before .before .before .before .before .before .before .read-nets .ensures .1 .1) (c .before .before .before .before .end-plan .ensures)
       (count-finished _ _ _ (c .before .before .before .before .before .before .before .before .before .before .before .before .before .before .before .before .before .vertices .ensures) (c .before .before .finish-map .ensures)),
 )

@@ -1,7 +1,8 @@
 -- `router::replay_call::maizespell_replay` meets its contract: the job is refused, or it is replayed.
 use borrow.Author.Needs.{needs}
 use Rattle.reader.proofs.Outcome.{read-at, read-refused, zeros-bare}
-use Rattle.router.proofs.Replays.{job-holds, job-refused, job-replayed}
+use Rattle.router.proofs.Holding.{head-holds, job-held, refused-room}
+use Rattle.router.proofs.Replays.{replay-refused, replay-parts}
 use Rattle.router.proofs.replay_call.maizespell_replay.Statement.{statement}
 use Rattle.router.proofs.replay_call.maizespell_replay.Tie as tie
 
@@ -17,11 +18,17 @@ refused-replay-requires c κs = search needs
 enum-known-reached-2 : tie.Need-enum-known-reached-2
 enum-known-reached-2 c = search needs
 
+held-of-requires : tie.Need-held-of-requires
+held-of-requires c κs = head-holds (read-at _ _ (c .before .before .before .before .before .read-job .ensures .0) _ (c .before .before .before .reached2 .given .1))
+
 replay-job-requires : tie.Need-replay-job-requires
-replay-job-requires c κs = job-holds (read-at _ _ (c .before .before .before .before .before .before .before .before .read-job .ensures .0) _ (c .before .before .before .before .reached2 .given .1)) (c .before .before .before .before .before .before .before .before .read-job .ensures .1)
+replay-job-requires c κs =
+    job-held (read-at _ _ (c .before .before .before .before .before .before .before .before .before .read-job .ensures .0) _ (c .before .before .before .before .before .before .before .reached2 .given .1)) (c .before .before .before .before .before .before .before .before .before .read-job .ensures .1) (c .before .before .before .held-of .ensures)
 
 returns : tie.Need-returns
-returns c = job-refused _ _ _ _ (read-refused _ _ (c .before .before .before .before .before .before .read-job .ensures .0) _ _ (c .before .before .reached .given .1)) (c .refused-replay .ensures)
+returns c =
+    replay-parts (replay-refused _ _ _ _ (refused-room _ _ _ (read-refused _ _ (c .before .before .before .before .read-job .ensures .0) _ _ (c .before .before .reached .given .1)))
+    (c .refused-replay .ensures))
 
 same-length : tie.Need-same-length
 same-length c = search needs
@@ -30,10 +37,9 @@ same-length-2 : tie.Need-same-length-2
 same-length-2 c = search needs
 
 returns-2 : tie.Need-returns-2
-returns-2 c =
-    job-replayed _ _ _ (read-at _ _ (c .before .before .before .before .before .before .before .before .before .before .before .before .before .read-job .ensures .0) _ (c .before .before .before .before .before .before .before .before .before .reached2 .given .1)) (c .before .before .before .before .replay-job .ensures .0) (c .before .before .before .before .replay-job .ensures .1 .0) (c .before .before .before .before .replay-job .ensures .1 .1)
+returns-2 c = replay-parts (c .before .before .before .before .replay-job .ensures)
 
 pub maizespell-replay-spec : {M : Type 1} → statement M
 maizespell-replay-spec =
-    tie.close (tie.spec read-job-requires enum-known-reached refused-replay-requires enum-known-reached-2 replay-job-requires returns same-length
-    same-length-2 returns-2)
+    tie.close (tie.spec read-job-requires enum-known-reached refused-replay-requires enum-known-reached-2 held-of-requires
+    replay-job-requires returns same-length same-length-2 returns-2)

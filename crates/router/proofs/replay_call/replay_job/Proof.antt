@@ -1,60 +1,32 @@
--- `router::replay_call::replay_job` meets its contract: the map is short, the work is short, or the plan is read.
-use mathlib.Core.Path.{refl, ap, _∙_}
+-- `router::replay_call::replay_job` meets its contract: a slice is short, or the plan is read.
 use native.Mathlib.Omega.{arith}
 use borrow.Author.Needs.{needs}
-use Rattle.router.specs.Held.{techHeld}
-use Rattle.router.proofs.Replays.{holds-sized, holds-eight, holds-small, map-short, work-short, replayed, plan-asked, nets-small}
+use Rattle.router.proofs.Holding.{room-short, room-enough, plan-asked}
+use Rattle.router.proofs.Replays.{replay-refused, replay-read}
 use Rattle.router.proofs.replay_call.replay_job.Statement.{statement}
 use Rattle.router.proofs.replay_call.replay_job.Tie as tie
 
-vertices-requires : tie.Need-vertices-requires
-vertices-requires c κs = holds-sized _ _ _ _ (c .before .before .before .before .pre) .small
+room-for-requires : tie.Need-room-for-requires
+room-for-requires c κs = search needs
 
-mul-need : tie.Need-mul-need
-mul-need c = omega (arith, c .vertices .ensures, holds-sized _ _ _ _ (c .before .before .before .before .before .pre) .vertices)
-
-largest-least-requires : tie.Need-largest-least-requires
-largest-least-requires c κs = holds-eight _ _ _ _ (c .before .before .before .before .before .pre)
-
-add-need : tie.Need-add-need
-add-need c = let small = holds-small _ _ _ _ (c .before .before .before .before .before .before .pre) (c .before .vertices .ensures) (c .largest-least .ensures) in omega (arith, small .1)
-
-mul-need-2 : tie.Need-mul-need-2
-mul-need-2 c = let small = holds-small _ _ _ _ (c .before .before .before .before .before .before .pre) (c .before .vertices .ensures) (c .largest-least .ensures) in omega (arith, small .2)
+enum-known-room : tie.Need-enum-known-room
+enum-known-room c = search needs
 
 refused-replay-requires : tie.Need-refused-replay-requires
 refused-replay-requires c κs = search needs
 
-returns : tie.Need-returns
-returns c = map-short _ _ _ _ (c .before .before .before .before .before .before .before .before .pre) (c .before .before .before .vertices .ensures) (c .before .before .largest-least .ensures) _ _ _ (c .before .if1 .taken) (c .refused-replay .ensures)
-
-refused-replay-requires-2 : tie.Need-refused-replay-requires-2
-refused-replay-requires-2 c κs = search needs
-
-returns-2 : tie.Need-returns-2
-returns-2 c =
-    work-short _ _ _ _ (c .before .before .before .before .before .before .before .before .before .pre) (c .before .before .before .before .vertices .ensures) (c .before .before .before .largest-least .ensures) _ _ _ (c .before .before .if1 .left) (c .before .if2 .taken) (c .refused-replay2 .ensures)
+enum-told : tie.Need-enum-told
+enum-told c = search needs
 
 zero-words-requires : tie.Need-zero-words-requires
-zero-words-requires c κs = c .before .if2 .left
-
-mul-from : tie.Need-mul-from
-mul-from c = omega (arith, holds-sized _ _ _ _ (c .before .before .before .before .before .before .before .before .before .before .before .before .before .pre) .small .layers)
-
-add-from : tie.Need-add-from
-add-from c = omega (arith, holds-sized _ _ _ _ (c .before .before .before .before .before .before .before .before .before .before .before .before .before .pre) .small .layers)
-
-mul-from-2 : tie.Need-mul-from-2
-mul-from-2 c = omega (arith, nets-small _ _ _ _ (c .before .before .before .before .before .before .before .before .before .before .before .before .before .before .pre))
-
-add-from-2 : tie.Need-add-from-2
-add-from-2 c = omega (arith, holds-sized _ _ _ _ (c .before .before .before .before .before .before .before .before .before .before .before .before .before .before .pre) .small .layers, nets-small _ _ _ _ (c .before .before .before .before .before .before .before .before .before .before .before .before .before .before .pre))
-
-tech-of-requires : tie.Need-tech-of-requires
-tech-of-requires c κs = search needs
+zero-words-requires c κs =
+    let h = c .before .before .before .before .before .before .before .before .before .before .pre in
+    omega (arith, h .work, room-enough h _ _ (c .before .before .before .room-for .ensures) (c .before .enum-told .given .1) .need)
 
 replay-plan-requires : tie.Need-replay-plan-requires
-replay-plan-requires c κs = plan-asked _ _ _ _ (c .before .before .before .before .before .before .before .before .before .before .before .before .before .before .before .before .pre) (c .before .tech-of .ensures) (omega (arith, c .before .before .before .before .before .before .before .before .before .before .before .vertices .ensures, c .before .before .before .before .before .before .before .before .before .if1 .left)) refl
+replay-plan-requires c κs =
+    let h = c .before .before .before .before .before .before .before .before .before .before .before .before .before .before .before .pre in
+    plan-asked h (room-enough h _ _ (c .before .before .before .before .before .before .before .before .room-for .ensures) (c .before .before .before .before .before .before .enum-told .given .1) .vertices)
 
 result-of-requires : tie.Need-result-of-requires
 result-of-requires c κs = search needs
@@ -65,15 +37,25 @@ same-length c = search needs
 same-length-2 : tie.Need-same-length-2
 same-length-2 c = search needs
 
-returns-3 : tie.Need-returns-3
-returns-3 c =
-    let held = c .before .before .before .before .before .before .before .before .before .before .before .before .before .before .before .before .before .before .before .before .pre in
-    replayed _ _ _ _ held (c .before .before .before .before .before .before .before .before .before .before .before .before .before .before .before .vertices .ensures) (c .before .before .before .before .before .before .before .before .before .before .before .before .before .before .largest-least .ensures) _ _ _ (c .before .before .before .before .before .before .before .before .before .before .before .before .before .if1 .left) (c .before .before .before .before .before .before .before .before .before .before .before .before .if2 .left)
-    (c .result-of .ensures _ (c .before .before .before .replay-plan .ensures .0 (held .job) (held .read))) (c .before .before .before .replay-plan .ensures .1 (held .job) (held .read))
-    (c .before .before .before .before .before .before .before .before .before .before .zero-words .ensures)
+returns : tie.Need-returns
+returns c =
+    replay-refused _ _ _ _ (room-short (c .before .before .before .before .before .before .before .before .before .before .before .pre) _ _ (c .before .before .before .before .room-for .ensures) (c .before .before .room .given .1)) (c .refused-replay .ensures)
+
+same-length-3 : tie.Need-same-length-3
+same-length-3 c = search needs
+
+same-length-4 : tie.Need-same-length-4
+same-length-4 c = search needs
+
+returns-2 : tie.Need-returns-2
+returns-2 c =
+    let h = c .before .before .before .before .before .before .before .before .before .before .before .before .before .before .before .before .before .before .before .pre in
+    let enough = room-enough h _ _ (c .before .before .before .before .before .before .before .before .before .before .before .before .room-for .ensures) (c .before .before .before .before .before .before .before .before .before .before .enum-told .given .1) in
+    let read = c .before .before .before .replay-plan .ensures in
+    replay-read _ _ _ _ (enough .read) (c .result-of .ensures _ (read .0 (h .job) (h .read))) (read .1 (h .job) (h .read))
+    (rw (h .work) at (c .before .before .before .before .before .before .before .before .zero-words .ensures))
 
 pub replay-job-spec : {M : Type 1} → statement M
 replay-job-spec =
-    tie.close (tie.spec vertices-requires mul-need largest-least-requires add-need mul-need-2 refused-replay-requires returns
-    refused-replay-requires-2 returns-2 zero-words-requires mul-from add-from mul-from-2 add-from-2 tech-of-requires replay-plan-requires
-    result-of-requires same-length same-length-2 returns-3)
+    tie.close (tie.spec room-for-requires enum-known-room refused-replay-requires enum-told zero-words-requires replay-plan-requires
+    result-of-requires same-length same-length-2 returns same-length-3 same-length-4 returns-2)

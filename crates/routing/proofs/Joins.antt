@@ -1,0 +1,79 @@
+-- One join of the net at hand: what it walks, and what it leaves in the arrays.
+--     JoinMade, join-made     the join of what stands
+--     route-all, route-more   the records of a net by whether a pin is unjoined
+use Prim.Native.Nat.{ℕ, zero, suc}
+use mathlib.Core.Path.{_≡_, refl, sym, ap, subst, _∙_}
+use mathlib.Core.List.{List, [], _∷_}
+use Rattle.job.specs.Grid.{vertices}
+use Rattle.job.specs.Job.{Job}
+use Rattle.job.specs.Good.{GoodJob}
+use Rattle.rules.specs.Views.{View, viewOf}
+use Rattle.rules.specs.Segments.{Place}
+use Rattle.rules.specs.Prices.{techOf}
+use Rattle.rules.specs.Walks.{Sum, startAt, walked, walk}
+use Rattle.rules.specs.Standings.{Standing, joinedBy}
+use Rattle.rules.specs.Joins.{join, joinOf}
+use Rattle.rules.specs.Routings.{Totals, withNet, byRecord, routeNet}
+use Rattle.rules.proofs.Techs.{good-tech}
+use Rattle.rules.proofs.Places.{start-good}
+use Rattle.rules.proofs.Walks.{route-walk}
+use Rattle.rules.proofs.Joins.{join-route}
+use Rattle.rules.proofs.Standing.{joined-apart}
+use Rattle.metal.specs.Codes.{Beyond}
+use Rattle.walker.specs.Entering.{Arrays, goneAt, entered, enterAll}
+use Rattle.walker.specs.Standing.{Stood, AtNet}
+use Rattle.walker.proofs.Sums.{plusSum, nothing-plus}
+use Rattle.walker.proofs.Standing.{walkedBy, stood-begun, stood-joined, end-entered, net-joined}
+use Rattle.walker.proofs.Entering.{enter-walk}
+
+-- a join of net k that was walked and entered
+pub record JoinMade (j : Job) (k : ℕ) (view : View) (pins : List ℕ) (s : Standing) (arrays : Arrays) (start : ℕ) (moves : List ℕ) : Type 0 where
+  pub last : Place
+  pub sum : Sum
+  pub left : Arrays
+  pub walks : walk (techOf j) (viewOf j k (s .metal)) (startAt start) moves ≡ walked last sum
+  pub enters : enterAll (techOf j) view (suc k) moves (goneAt start) arrays ≡ entered (record { place = last; sum = sum }) left
+  pub after : AtNet j k view pins (joinedBy k s (last .vertex) sum) left
+  pub kept : Beyond (vertices (j .grid)) (left .codes) (arrays .codes)
+
+module _ {j : Job} (good-j : GoodJob j) (k : ℕ) (view : View) (pins : List ℕ) (s : Standing) (arrays : Arrays) (here : AtNet j k view pins s arrays) where
+  -- the join of what stands
+  pub join-made : {start cost : ℕ} {moves : List ℕ} → joinOf (techOf j) view (s .tree) (s .unjoined) ≡ join start moves cost
+      → JoinMade j k view pins s arrays start moves
+  unfolding goneAt techOf
+  join-made {start} {cost} {moves} is =
+      let good = good-tech good-j in
+      let route = join-route good view (here .apart) is in
+      let on = here .apart .onGrid start (route .onTree) in
+      let w = route-walk good view on route in
+      let by = enter-walk view good k s (here .known) moves (goneAt start) arrays (start-good on) (stood-begun (j .grid) k s arrays (here .stood)) (w .does) in
+      let all : plusSum (goneAt start .sum) (w .sum) ≡ w .sum = nothing-plus (w .sum) in
+      let stood = subst (λ (z : Sum). Stood (j .grid) (walkedBy k s z) (by .left)) all (by .stood) in
+      record {
+        last = w .last;
+        sum = w .sum;
+        left = by .left;
+        walks = ap (λ (v : View). walk (techOf j) v (startAt start) moves) (sym (here .sees)) ∙ w .does;
+        enters = by .is ∙ (λ i. entered (record { place = w .last; sum = all i }) (by .left));
+        after = net-joined j k view pins s (w .sum) (w .last .vertex) arrays (by .left) here (joined-apart k s good (here .apart) route (w .does))
+            (stood-joined (j .grid) k s (w .sum) (w .last .vertex) (by .left) (end-entered (w .last .vertex) (s .tree) (w .way) (w .enters)) stood);
+        kept = by .kept;
+      }
+
+-- every pin is joined
+pub route-all : (j : Job) (k n : ℕ) (s : Standing) (totals : Totals) → s .unjoined ≡ []
+    → routeNet j k n s totals ≡ record { entries = []; metal = s .metal; totals = withNet totals }
+unfolding routeNet
+route-all j k zero s totals none = refl
+route-all j k (suc n) s totals none = rw none refl
+
+-- a pin is unjoined
+pub route-more : (j : Job) (k n : ℕ) (s : Standing) (totals : Totals) → (s .unjoined ≡ [] → ⊥)
+    → routeNet j k (suc n) s totals ≡ byRecord j k s totals (routeNet j k n) (joinOf (techOf j) (viewOf j k (s .metal)) (s .tree) (s .unjoined))
+unfolding routeNet
+route-more j k n s totals some = by (s .unjoined) refl
+  where
+    by : (u : List ℕ) → s .unjoined ≡ u
+        → routeNet j k (suc n) s totals ≡ byRecord j k s totals (routeNet j k n) (joinOf (techOf j) (viewOf j k (s .metal)) (s .tree) (s .unjoined))
+    by [] e = absurd (some e)
+    by (p ∷ ps) e = rw e refl

@@ -1,0 +1,25 @@
+-- `routing::net::route_net` meets its contract.
+use borrow.Author.Needs.{needs}
+use Rattle.routing.proofs.net.route_net.Statement.{statement}
+use Rattle.routing.proofs.net.route_net.Tie as tie
+
+begin-tree-requires : tie.Need-begin-tree-requires
+begin-tree-requires c κs = c .before .before .before .before .pre .4
+
+route-records-requires : tie.Need-route-records-requires
+route-records-requires c κs = c .before .before .before .before .before .before .before .before .before .pre
+
+same-length : tie.Need-same-length
+same-length c = search needs
+
+same-length-2 : tie.Need-same-length-2
+same-length-2 c = search needs
+
+same-length-3 : tie.Need-same-length-3
+same-length-3 c = search needs
+
+returns : tie.Need-returns
+returns c = rw (c .before .before .before .before .before .before .before .before .before .before .before .begin-tree .ensures) at (c .before .before .before .before .before .before .route-records .ensures)
+
+pub route-net-spec : {M : Type 1} → statement M
+route-net-spec = tie.close (tie.spec begin-tree-requires route-records-requires same-length same-length-2 same-length-3 returns)

@@ -1,0 +1,195 @@
+-- The turns of writing the route that follows the table.
+--     Writing            what has been written, and that the rest gives the whole
+--     writing-begun      before the first move
+--     writing-number     the number of the next move
+--     writing-legal      the next move is legal
+--     writing-fits, writing-on     what is known of it, and after it
+--     writing-done       after the last
+use Prim.Native.Nat.{ℕ, suc, _+_, _-_, _*_, _^_, _≤_, _<_}
+use mathlib.Core.Path.{_≡_, refl, sym, ap, _∙_}
+use mathlib.Core.List.{List, [], _∷_, _++_}
+use native.Mathlib.Omega.{arith}
+use lib.ListN.{length, getD, set}
+use Rattle.bits.specs.Bits.{fieldBits, putBits}
+use Rattle.bits.proofs.Laws.{length-fieldBits, length-putBits, putBits-append}
+use Rattle.job.specs.Grid.{vertices}
+use Rattle.job.specs.Packing.{concatBits}
+use Rattle.job.specs.Structs.{gridOf}
+use Rattle.paths.specs.Systems.{blocked, to}
+use Rattle.paths.specs.Distances.{fin, lowestKeeping, follow}
+use Rattle.paths.proofs.Following.{Onward, follow-onward}
+use Rattle.rules.specs.Views.{View}
+use Rattle.rules.specs.Segments.{Place}
+use Rattle.rules.specs.Steps.{Made, legal, step, priced}
+use Rattle.rules.specs.Joins.{places}
+use Rattle.rules.specs.Seen.{viewBy}
+use Rattle.rules.specs.Places.{codeBy}
+use Rattle.rules.specs.Structs.{directionOf, TechFits, techBy, placeOf, steppedBy, madeBy, Whole, WholeStep, IsStepped}
+use Rattle.rules.specs.declared.price.Tech.{Tech as TechStruct}
+use Rattle.rules.specs.declared.step.Made.{Made as MadeStruct}
+use Rattle.rules.specs.declared.step.Stepped.{Stepped as SteppedEnum}
+use Rattle.rules.specs.declared.step.Stepped.the-variants.{Illegal, Legal}
+use Rattle.metal.specs.Codes.{layAll, beyond}
+use Rattle.metal.proofs.Laid.{laid-length}
+use Rattle.walker.specs.Entering.{Arrays, Gone, goneAt, goneOn, entered, enterAll, leftIn}
+use Rattle.walker.specs.Structs.{walkFrom, walkOn, WalkFits, IsEntered}
+use Rattle.walker.specs.declared.Walk.{Walk}
+use Rattle.walker.proofs.Landing.{MoveFits, made-fits, made-entered, MovesMade, made-none, made-one, made-all}
+use Rattle.walker.proofs.Entering.{enter-step}
+use Rattle.walker.proofs.Nets.{empty}
+use Rattle.search.specs.Tables.{tableBy, systemBy, Searched}
+use Rattle.search.specs.Traces.{routeBy}
+use Rattle.search.proofs.Followed.{number-lowest}
+
+module _ (tech : TechStruct) (seen work : List ℕ) (net from count start : ℕ) (first : Arrays) (found : List ℕ) where
+  -- what the net at hand sees
+  abbrev view : View
+  view = viewBy (gridOf (tech .grid)) seen
+
+  -- the moves from a place, with so many left at most
+  abbrev moves-from : (fuel : ℕ) → Place → List ℕ
+  moves-from fuel p = follow (systemBy (techBy tech) view (first .spots)) (tableBy (techBy tech) work) fuel p
+
+  -- all moves
+  abbrev pub route : List ℕ
+  route = routeBy (techBy tech) view (first .spots) work start
+
+  -- so many moves are left: the rest from where the walk has led gives the whole, in the arrays and in the plan
+  pub record Writing (spots codes plan : List ℕ) (walk : Walk) (at left : ℕ) : Type 0 where
+    pub gone : Gone
+    pub fuel : ℕ
+    pub made : MovesMade tech (count - left) walk gone
+    pub rest : length (moves-from fuel (gone .place)) ≡ left
+    pub same : enterAll (techBy tech) view net route (goneAt start) first
+        ≡ enterAll (techBy tech) view net (moves-from fuel (gone .place)) gone (record { spots = spots; codes = codes })
+    pub bits : putBits found from (concatBits (fieldBits 2) route) ≡ putBits plan at (concatBits (fieldBits 2) (moves-from fuel (gone .place)))
+    pub next : at + 2 * left ≡ from + 2 * count
+    pub few : left ≤ count
+    pub size : length codes ≡ length (first .codes)
+    pub long : length plan ≡ length found
+
+  -- before the first move
+  pub writing-begun : {walk : Walk} → walk ≡ walkFrom start → start < vertices (gridOf (tech .grid)) → count ≡ length route
+      → Writing (first .spots) (first .codes) found walk from count
+  unfolding routeBy goneAt
+  writing-begun begun on counted =
+      let none : count - count ≡ 0 = omega arith in
+      record {
+        gone = goneAt start;
+        fuel = places (techBy tech);
+        made = rw (begun, none) (made-none tech start on);
+        rest = sym counted;
+        same = refl;
+        bits = refl;
+        next = refl;
+        few = omega arith;
+        size = refl;
+        long = refl;
+      }
+
+  module _ {spots codes plan : List ℕ} {walk : Walk} {at left : ℕ} (so-far : Writing spots codes plan walk at left) (some : 0 < left) where
+    -- the move that is next
+    pub onward : Onward (systemBy (techBy tech) view (first .spots)) (tableBy (techBy tech) work) (so-far .fuel) (so-far .gone .place)
+    onward = follow-onward _ _ (so-far .fuel) (so-far .gone .place) (omega (arith, some, so-far .rest))
+
+    -- it is the lowest that keeps the entry
+    abbrev pub Lowest : ℕ → Type 0
+    Lowest number = number ≡ lowestKeeping (systemBy (techBy tech) view (first .spots)) (tableBy (techBy tech) work) (so-far .gone .place) (onward .cost)
+
+    -- its number, in the code's words
+    pub writing-number : {largest : ℕ} → Searched tech largest → {entry number : ℕ} → entry ≡ getD work (codeBy largest (placeOf (walk .place))) 0
+        → ((bytes : List ℕ) (n : ℕ) → entry ≡ suc n
+        → number ≡ lowestKeeping (systemBy (techBy tech) view bytes) (tableBy (techBy tech) work) (placeOf (walk .place)) n) → Lowest number
+    writing-number held {entry} {number} told low =
+        let here = so-far .made .is .place in
+        let cost : tableBy (techBy tech) work (placeOf (walk .place)) ≡ fin (onward .cost) = rw here (onward .entry) in
+        number-lowest held (walk .place) (so-far .made .place) seen (first .spots) work (onward .cost) cost told low
+        ∙ ap (λ (p : Place). lowestKeeping (systemBy (techBy tech) view (first .spots)) (tableBy (techBy tech) work) p (onward .cost)) here
+
+    module _ {number : ℕ} (numbered : Lowest number) {r : SteppedEnum}
+        (stepped : IsStepped (gridOf (tech .grid)) view (walk .place .vertex) r (step (techBy tech) view (placeOf (walk .place)) number)) where
+      -- what it leads to
+      leads : priced (step (techBy tech) view (placeOf (walk .place)) number) ≡ to (onward .price) (onward .next)
+      leads = rw (so-far .made .is .place, numbered) (onward .leads)
+
+      -- it is legal
+      pub writing-legal : r ≡ Illegal → ⊥
+      unfolding steppedBy priced
+      writing-legal is =
+          let stops : priced (step (techBy tech) view (placeOf (walk .place)) number) ≡ blocked = rw (← stepped .same, is) refl in
+          let e : blocked ≡ to (onward .price) (onward .next) = sym stops ∙ leads in
+          let z : _≡_ {A = ℕ} 0 1 = cc in
+          omega arith
+
+      module _ (m : MadeStruct) (told : r ≡ Legal m) where
+        -- the definition's move
+        abbrev made : Made
+        made = madeBy (gridOf (tech .grid)) view (walk .place .vertex) m
+
+        is-step : step (techBy tech) view (placeOf (walk .place)) number ≡ legal made
+        unfolding steppedBy
+        is-step = sym (rw told at (stepped .same))
+
+        is-whole : Whole (gridOf (tech .grid)) view (walk .place .vertex) (m .toward) (m .added)
+        unfolding WholeStep
+        is-whole = rw told at (stepped .whole)
+
+        -- the place that it leads to
+        is-next : onward .next ≡ placeOf (m .next)
+        unfolding priced madeBy
+        is-next =
+            let e : to (onward .price) (onward .next) ≡ to (m .enter + m .over) (placeOf (m .next)) = sym leads ∙ ap priced is-step in
+            cc
+
+        -- the moves that are left are it and the rest
+        is-first : moves-from (so-far .fuel) (so-far .gone .place) ≡ number ∷ moves-from (onward .left) (placeOf (m .next))
+        is-first = rw (numbered, ← is-next) (onward .follows)
+
+        -- it leads to a good place, and its numbers are small
+        pub writing-fits : TechFits tech → MoveFits tech m
+        writing-fits fits = made-fits tech view (walk .place) number m is-step is-whole fits (so-far .made .place)
+
+        -- after the move
+        pub writing-on : TechFits tech → {more after longer : List ℕ} {further : Walk} {next : ℕ} → more ≡ set spots (m .next .vertex) 1
+            → after ≡ layAll net (beyond (gridOf (tech .grid)) (directionOf (m .toward)) (m .added) (walk .place .vertex) ++ (m .next .vertex ∷ [])) codes
+            → longer ≡ putBits plan at (fieldBits 2 number) → next ≡ at + 2 → further ≡ walkOn walk m
+            → Writing more after longer further next (left - 1)
+        unfolding goneOn madeBy concatBits
+        writing-on fits {more} {after} {longer} {further} {next} marked laid put moved walked =
+            let arrays = made-entered tech view (walk .place) number m is-step is-whole net spots codes marked laid in
+            let one : count - (left - 1) ≡ suc (count - left) = omega (arith, so-far .few, some) in
+            let rest = moves-from (onward .left) (placeOf (m .next)) in
+            let here : step (techBy tech) view (so-far .gone .place) number ≡ legal made = rw (← so-far .made .is .place) is-step in
+            let wide : at + length (fieldBits 2 number) ≡ next = rw (length-fieldBits, moved) refl in
+            record {
+              gone = goneOn (so-far .gone) made;
+              fuel = onward .left;
+              made = rw (walked, one) (made-one tech view m (so-far .made) (writing-fits fits) is-whole);
+              rest = omega (arith, so-far .rest, ap (λ (ms : List ℕ). length ms) is-first);
+              same =
+                  so-far .same ∙ ap (λ (ms : List ℕ). enterAll (techBy tech) view net ms (so-far .gone) (record { spots = spots; codes = codes })) is-first
+                  ∙ enter-step (techBy tech) view net number rest (so-far .gone) _ here
+                  ∙ ap (enterAll (techBy tech) view net rest (goneOn (so-far .gone) made)) arrays;
+              bits =
+                  so-far .bits ∙ ap (λ (ms : List ℕ). putBits plan at (concatBits (fieldBits 2) ms)) is-first
+                  ∙ putBits-append plan at (fieldBits 2 number) (concatBits (fieldBits 2) rest)
+                  ∙ (λ i. putBits (sym put i) (wide i) (concatBits (fieldBits 2) rest));
+              next = omega (arith, so-far .next, some, moved);
+              few = omega (arith, so-far .few);
+              size = ap (λ (l : List ℕ). length l) laid ∙ laid-length net _ codes ∙ so-far .size;
+              long = ap (λ (l : List ℕ). length l) put ∙ length-putBits plan at (fieldBits 2 number) ∙ so-far .long;
+            }
+
+  -- after the last move
+  pub writing-done : {spots codes plan : List ℕ} {walk : Walk} {at left : ℕ} → Writing spots codes plan walk at left → left ≤ 0 → count < 2 ^ 20
+      → IsEntered walk (enterAll (techBy tech) view net route (goneAt start) first) × (WalkFits walk
+      × ((spots ≡ leftIn first (enterAll (techBy tech) view net route (goneAt start) first) .spots)
+      × ((codes ≡ leftIn first (enterAll (techBy tech) view net route (goneAt start) first) .codes)
+      × (plan ≡ putBits found from (concatBits (fieldBits 2) route)))))
+  unfolding enterAll IsEntered leftIn concatBits putBits
+  writing-done {spots} {codes} {plan} {walk} {at} so-far none few =
+      let nothing = empty (moves-from (so-far .fuel) (so-far .gone .place)) (omega (arith, so-far .rest, none)) in
+      let all : enterAll (techBy tech) view net route (goneAt start) first ≡ entered (so-far .gone) (record { spots = spots; codes = codes }) =
+      so-far .same ∙ ap (λ (ms : List ℕ). enterAll (techBy tech) view net ms (so-far .gone) (record { spots = spots; codes = codes })) nothing in
+      let written = so-far .bits ∙ ap (λ (ms : List ℕ). putBits plan at (concatBits (fieldBits 2) ms)) nothing in
+      rw all (so-far .made .is, (made-all (so-far .made) (omega (arith, few)), (refl, (refl, sym written))))

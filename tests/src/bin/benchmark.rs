@@ -1,0 +1,88 @@
+//! Times the library's routing beside the second one on four jobs: for each the best
+//! of several runs in this process, and how many times as long the library takes.
+//!
+//! Both answer the whole call, from the job's bytes to the plan's. Runs end when
+//! there were enough or they have taken long; one is always made.
+
+use std::time::{Duration, Instant};
+
+use maizespell_tests::generate::benchmark;
+use maizespell_tests::job::Job;
+use maizespell_tests::library::{RoutingResult, ROUTING};
+use maizespell_tests::routing::{routing, Routing};
+use maizespell_tests::rules::board::Board;
+
+const MOST_RUNS: u32 = 50;
+const LONG: Duration = Duration::from_secs(20);
+
+/// More than any plan of these jobs has.
+const PLAN_BYTES: usize = 1 << 20;
+
+/// A job with the slices that are lent for it.
+struct Lent {
+    job: Vec<u8>,
+    map: Vec<u16>,
+    work: Vec<u64>,
+    plan: Vec<u8>,
+}
+
+/// What the runs of one routing came to.
+struct Timed {
+    best: Duration,
+    runs: u32,
+    result: RoutingResult,
+    plan: Vec<u8>,
+}
+
+impl Lent {
+    fn of(job: &Job) -> Self {
+        let board = Board::new(job);
+        Lent {
+            job: job.pack(),
+            map: vec![0; board.vertices()],
+            work: vec![0; board.work_need()],
+            plan: vec![0; PLAN_BYTES],
+        }
+    }
+
+    fn run(&mut self, routing: Routing) -> (Duration, RoutingResult) {
+        let begin = Instant::now();
+        let result = routing(&self.job, &mut self.map, &mut self.work, &mut self.plan);
+        (begin.elapsed(), result)
+    }
+
+    fn time(&mut self, routing: Routing) -> Timed {
+        let begin = Instant::now();
+        let (mut best, result) = self.run(routing);
+        let mut runs = 1;
+        while runs < MOST_RUNS && begin.elapsed() < LONG {
+            best = best.min(self.run(routing).0);
+            runs += 1;
+        }
+        Timed {
+            best,
+            runs,
+            result,
+            plan: self.plan[..result.bytes as usize].to_vec(),
+        }
+    }
+}
+
+fn main() {
+    println!("best of several runs: library, second router, ratio");
+    for (name, job) in benchmark::all() {
+        let mut lent = Lent::of(&job);
+        let second = lent.time(routing);
+        let library = lent.time(ROUTING);
+        assert_eq!(library.result, second.result, "{name}");
+        assert!(library.plan == second.plan, "{name}: another plan");
+        let [library_ms, second_ms] = [&library, &second].map(|timed| milliseconds(timed.best));
+        let ratio = library_ms / second_ms;
+        let runs = (library.runs, second.runs);
+        println!("{name}: {library_ms:.2} ms, {second_ms:.2} ms, {ratio:.2} (runs {runs:?})");
+    }
+}
+
+fn milliseconds(time: Duration) -> f64 {
+    time.as_secs_f64() * 1_000.0
+}

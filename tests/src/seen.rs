@@ -1,0 +1,122 @@
+//! How often each kind of case, and each thing of note in jobs, came up.
+
+use std::collections::BTreeMap;
+use std::fmt;
+
+use crate::job::{Job, CLOSED};
+use crate::plan::Record;
+use crate::router::Routed;
+use crate::rules::metal::SEVERAL;
+
+#[derive(Default)]
+pub struct Seen {
+    counts: BTreeMap<String, u64>,
+}
+
+impl Seen {
+    pub fn note(&mut self, what: impl Into<String>, times: u64) {
+        *self.counts.entry(what.into()).or_default() += times;
+    }
+
+    pub fn count(&self, what: &str) -> u64 {
+        self.counts.get(what).copied().unwrap_or(0)
+    }
+
+    /// Fails where something came up less often than this.
+    pub fn assert_often(&self, what: &str, least: u64) {
+        let count = self.count(what);
+        assert!(count >= least, "rare, {count} times: {what}");
+    }
+
+    /// What a job has of note: its grid, its longest M, its penalties, its nets.
+    pub fn job(&mut self, job: &Job) {
+        self.note(layers(job.layers.len()), 1);
+        self.note(direction(job.direction), 1);
+        self.note(longest(job.largest_min_length()), 1);
+        let area = job.layers.iter().any(|layer| layer.area_penalty == CLOSED);
+        let guide = job.guide_penalty == CLOSED;
+        let short = job.short_penalty == CLOSED;
+        self.note(closed(guide, short, area), 1);
+        self.note("job: with obstacles", u64::from(!job.obstacles.is_empty()));
+        self.note("job: several nets", u64::from(job.nets.len() > 1));
+        for net in &job.nets {
+            self.note(pins(net.pins.len()), 1);
+            self.note("net: with boxes", u64::from(!net.boxes.is_empty()));
+        }
+    }
+
+    /// What a routed job has of note.
+    pub fn routed(&mut self, routed: &Routed) {
+        let moves = |record: &Record| record.join().map(|join| join.moves.len());
+        let moves: Vec<usize> = routed.records.iter().filter_map(moves).collect();
+        let joins = moves.len();
+        let totals = &routed.joined.totals;
+        let shared = routed.joined.map.contains(&SEVERAL);
+        self.note("routed: jobs", 1);
+        self.note("routed: joins", joins as u64);
+        self.note("routed: moves", moves.iter().sum::<usize>() as u64);
+        self.note("routed: none", (routed.records.len() - joins) as u64);
+        self.note("routed: nets joined", totals.joined);
+        self.note("routed: added steps", totals.added);
+        self.note("routed: penalised segments", totals.penalties);
+        self.note("routed: jobs with shorts", u64::from(shared));
+    }
+
+    /// Fails where a kind of job that routing must be tried on came up less often
+    /// than this: each number of layers and of pins, each longest M, both directions,
+    /// and each penalty open and closed beside every other.
+    pub fn assert_all_kinds(&self, least: u64) {
+        (1..=8).for_each(|count| self.assert_often(&layers(count), least));
+        (0..=1).for_each(|number| self.assert_often(&direction(number), least));
+        (1..=15).for_each(|length| self.assert_often(&longest(length), least));
+        (2..=16).for_each(|count| self.assert_often(&pins(count), least));
+        for (guide, short, area) in (0..8).map(|n| (n & 1 == 0, n & 2 == 0, n & 4 == 0)) {
+            self.assert_often(&closed(guide, short, area), least);
+        }
+        let more = [
+            "job: with obstacles",
+            "job: several nets",
+            "net: with boxes",
+            "routed: none",
+            "routed: added steps",
+            "routed: penalised segments",
+            "routed: jobs with shorts",
+        ];
+        more.iter().for_each(|what| self.assert_often(what, least));
+    }
+}
+
+fn layers(count: usize) -> String {
+    format!("job: {count} layers")
+}
+
+fn direction(number: u32) -> String {
+    format!("job: direction {number}")
+}
+
+fn longest(length: u32) -> String {
+    format!("job: longest M {length:2}")
+}
+
+fn pins(count: usize) -> String {
+    format!("net: {count:2} pins")
+}
+
+fn closed(guide: bool, short: bool, area: bool) -> String {
+    let mut names = vec![("guide", guide), ("short", short), ("area", area)];
+    names.retain(|(_, closed)| *closed);
+    if names.is_empty() {
+        names.push(("none", false));
+    }
+    let names: Vec<&str> = names.into_iter().map(|(name, _)| name).collect();
+    format!("job: closed: {}", names.join(", "))
+}
+
+impl fmt::Display for Seen {
+    fn fmt(&self, f: &mut fmt::Formatter) -> fmt::Result {
+        for (what, count) in &self.counts {
+            writeln!(f, "{count:9} {what}")?;
+        }
+        Ok(())
+    }
+}

@@ -1,0 +1,71 @@
+//! The program itself on files of jobs: one line, that of the second program.
+//!
+//! MAIZESPELL_PROGRAM names it.
+
+use std::env;
+use std::fs::{self, File};
+use std::io::Write;
+use std::path::{Path, PathBuf};
+use std::process::{Command, Output, Stdio};
+use std::thread;
+use std::time::Duration;
+
+use maizespell_tests::marked;
+use maizespell_tests::program::{edges, generated, line, Input};
+
+const SEED: u64 = 65_536;
+const JOBS: u32 = 150;
+
+fn program() -> PathBuf {
+    let path = env::var_os("MAIZESPELL_PROGRAM");
+    PathBuf::from(path.expect("MAIZESPELL_PROGRAM names the program"))
+}
+
+/// Runs the program on a file with these bytes.
+fn run(file: &Path, bytes: &[u8]) -> Output {
+    fs::write(file, bytes).expect("a file of the job");
+    let mut command = Command::new(program());
+    command.stdin(File::open(file).expect("the file of the job"));
+    command.output().expect("the program runs")
+}
+
+fn check_output(kind: &str, output: &Output, expected: &str) {
+    let written = String::from_utf8_lossy(&output.stdout);
+    assert_eq!(written, expected, "{kind}");
+    assert!(output.status.success(), "{kind}: {}", output.status);
+}
+
+fn check_all(name: &str, inputs: &[Input]) {
+    let file = Path::new(env!("CARGO_TARGET_TMPDIR")).join(name);
+    for Input { kind, bytes } in inputs {
+        check_output(kind, &run(&file, bytes), &line(bytes));
+    }
+    println!("{} runs: {name}", inputs.len());
+}
+
+#[test]
+fn edges_get_their_lines() {
+    check_all("edges", &edges());
+}
+
+#[test]
+fn generated_jobs_get_their_lines() {
+    check_all("generated", &generated(JOBS, SEED));
+}
+
+/// The document's job and line, through a pipe that gives the bytes in two parts.
+#[test]
+fn a_gets_the_line_of_the_document_through_a_pipe() {
+    let mut command = Command::new(program());
+    command.stdin(Stdio::piped()).stdout(Stdio::piped());
+    let mut child = command.spawn().expect("the program runs");
+    let mut input = child.stdin.take().expect("a pipe");
+    for part in marked::a().pack().chunks(20) {
+        input.write_all(part).expect("the program reads");
+        input.flush().expect("the program reads");
+        thread::sleep(Duration::from_millis(50));
+    }
+    drop(input);
+    let output = child.wait_with_output().expect("the program ends");
+    check_output("A", &output, "80 00 00 00 03 54 00 00 00 00 0C\n");
+}
