@@ -1,8 +1,19 @@
-/* Maizespell, a detailed router over priced metal layers.
+/* Maizespell, a detailed router over priced metal layers. For C99 and C++17, on x86-64 Linux.
  *
- * Slices are lent as a pointer and a length. A call keeps no pointer after it returns, and what it
- * may be called with has no conditions: any bytes, any lengths. Bit positions count from the most
- * significant bit of the first byte. */
+ * Sizing says what slices a job needs, routing makes its plan, replay reads a plan again. Each may be called with
+ * any bytes and slices of any length: it returns a result or a numbered refusal.
+ *
+ * Slices are lent as a pointer and a length.
+ * - The length counts numbers of the pointer's type, and so many must be there. No call touches what lies outside
+ *   its slices, or writes through a pointer to const.
+ * - A slice of length 0 may have any pointer, null included: nothing is read or written through it.
+ * - The pointer is aligned as its type asks: map to 2 bytes, work to 8.
+ * - The slices of a call do not overlap, and nobody else writes them, or reads those that the call may write, before
+ *   it returns.
+ * - The caller owns them. No pointer is kept after a call returns, nothing is allocated, and there is no state from
+ *   call to call: calls may run at once in several threads, with map, work and routing's plan of their own.
+ *
+ * A call takes its working memory from the caller's stack: see the constants below. */
 #ifndef MAIZESPELL_H
 #define MAIZESPELL_H
 
@@ -13,60 +24,96 @@
 extern "C" {
 #endif
 
-/* What sizing answers. Where the job is good, refusal and place are 0. Where it is refused, refusal is
- * 1 to 11, place is the bit position that the refusal names, and vertices and work are 0. */
+/* The numbers of refusals. The first broken rule in reading order is returned, with its place: 12 to 14 give the
+ * need, all others a bit position, counted from the most significant bit of the first byte, 15 to 18 in the plan. */
+enum maizespell_refusal {
+    MAIZESPELL_NOT_REFUSED = 0,
+    MAIZESPELL_JOB_TOO_LONG = 1,                 /* job over 262,144 bytes; place 0 */
+    MAIZESPELL_GROUP_NOT_WHOLE = 2,              /* first bit of the group */
+    MAIZESPELL_EDITION_NOT_1 = 3,                /* place 0 */
+    MAIZESPELL_TOO_MANY_VERTICES = 4,            /* vertices over 16,384; place 8 */
+    MAIZESPELL_LAYER_LINE_RULE_BROKEN = 5,       /* the field */
+    MAIZESPELL_OBSTACLE_OUTSIDE = 6,             /* any of it outside; the obstacle */
+    MAIZESPELL_ONE_PIN = 7,                      /* a net has one pin; the net head */
+    MAIZESPELL_PIN_OUTSIDE_OR_ON_OBSTACLE = 8,   /* the pin */
+    MAIZESPELL_PIN_ON_EARLIER_PIN = 9,           /* same vertex as an earlier pin; the pin */
+    MAIZESPELL_BOX_CROSSED_OR_OUTSIDE = 10,      /* low above high, or outside; the box */
+    MAIZESPELL_TAIL_BIT_SET_OR_MORE_BYTES = 11,  /* the bit after the last field */
+    MAIZESPELL_MAP_SHORT = 12,                   /* the map numbers needed */
+    MAIZESPELL_WORK_SHORT = 13,                  /* the work numbers needed */
+    MAIZESPELL_PLAN_SHORT = 14,                  /* routing: the plan bytes needed */
+    MAIZESPELL_PLAN_NOT_WHOLE_OR_TAIL_WRONG = 15, /* flag, start with count, move or cost not whole: its first bit;
+                                                     tail wrong: the bit after the last record */
+    MAIZESPELL_START_NOT_ON_TREE = 16,           /* the start */
+    MAIZESPELL_MOVE_NOT_LEGAL = 17,              /* or it enters an unjoined pin early, or is the last and enters none:
+                                                    the move; no move: the count */
+    MAIZESPELL_COST_DIFFERS = 18                 /* the cost */
+};
+
+/* What the map holds for a vertex; 1 to 255 are metal of that net alone. Vertices go by layer, row, column. */
+enum maizespell_map {
+    MAIZESPELL_MAP_BARE = 0,
+    MAIZESPELL_MAP_SEVERAL_NETS = 256,
+    MAIZESPELL_MAP_OBSTACLE = 257
+};
+
+/* The stack that a call needs, in bytes. */
+enum maizespell_stack {
+    MAIZESPELL_SIZING_STACK = 18 * 1024,
+    MAIZESPELL_REPLAY_STACK = 52 * 1024,
+    MAIZESPELL_ROUTING_STACK = 53 * 1024
+};
+
+/* What sizing answers. Where the job is good, refusal and place are 0. Where it is refused, refusal is 1 to 11 and
+ * vertices and work are 0. */
 struct maizespell_sizing_result {
     uint64_t refusal;
     uint64_t place;
-    uint64_t vertices; /* layers x rows x columns */
-    uint64_t work;     /* the work need, in 64-bit numbers */
+    uint64_t vertices; /* layers x rows x columns: the map's need */
+    uint64_t work;     /* vertices x 4 x (largest M + 1): the work slice's need */
 };
 
-/* Reads a job's bytes. It needs 18 KiB of stack. */
+/* Reads a job's bytes. */
 struct maizespell_sizing_result maizespell_sizing(const uint8_t *job, size_t job_len);
 
-/* What replay answers. Where the plan is accepted, refusal and place are 0. On a refusal every number but it
- * and its place is 0: 1 to 11 are the job's, 12 and 13 say that the map or the work slice is short and give
- * the need as place, 15 to 18 are the plan's with a bit position in the plan. */
+/* What routing answers. Where the plan fits, refusal and place are 0. On a refusal, 1 to 14, every number but it and
+ * its place is 0. */
+struct maizespell_routing_result {
+    uint64_t refusal;
+    uint64_t place;
+    uint64_t bytes;     /* the plan's bytes, at the front of the plan slice */
+    uint64_t cost;
+    uint64_t added;     /* added steps: M - n for each extension */
+    uint64_t penalties; /* penalised segments */
+    uint64_t joined;    /* nets fully joined */
+};
+
+/* Routes a job. The needs of map and work are those that sizing gives. How many bytes the plan needs is known only
+ * after routing: lend a guess, and where it is refused by 14, call again with the place's number of bytes.
+ * After success the needed part of the map holds the codes above, and the needed part of work is zero. After 14 the
+ * needed parts of map and work and the whole plan slice are zero. After 1 to 13 every slice is as found. What lies
+ * past the needs of map and work, and after success past the plan's bytes, is as found. */
+struct maizespell_routing_result maizespell_routing(const uint8_t *job, size_t job_len, uint16_t *map, size_t map_len,
+                                                    uint64_t *work, size_t work_len, uint8_t *plan, size_t plan_len);
+
+/* What replay answers. Where the plan is accepted, refusal and place are 0. On a refusal, 1 to 13 or 15 to 18, every
+ * number but it and its place is 0. */
 struct maizespell_replay_result {
     uint64_t refusal;
     uint64_t place;
     uint64_t cost;
-    uint64_t added;     /* added steps: M - n for each extension */
-    uint64_t penalties; /* penalised segments */
-    uint64_t joined;    /* nets fully joined */
+    uint64_t added;
+    uint64_t penalties;
+    uint64_t joined;
 };
 
-/* Reads a plan against a job. The needs are those that sizing gives: one map number for each vertex, and work.
- * After a plan is accepted the needed part of the map holds 0 bare, 1 to 255 that net alone, 256 several nets,
- * 257 obstacle; after 15 to 18 it is zero; the needed part of work is zero after both. After 1 to 13 both
- * slices are as found, and so is what lies past their needs always. The slices must not overlap. It needs
- * 52 KiB of stack. */
+/* Reads a plan against a job: the map and the totals of its records, if each is legal and rightly priced. It does not
+ * ask whether they are cheapest. The needs are those that sizing gives. After success map and work are as after
+ * routing; after 15 to 18 their needed parts are zero; after 1 to 13 both are as found, and so is always what lies
+ * past their needs. */
 struct maizespell_replay_result maizespell_replay(const uint8_t *job, size_t job_len, const uint8_t *plan,
-                                                  size_t plan_len, uint16_t *map, size_t map_len,
-                                                  uint64_t *work, size_t work_len);
-
-/* What routing answers. Where the job is routed, refusal and place are 0 and bytes says how many of the plan
- * slice's first bytes are the plan. On a refusal every number but it and its place is 0: 1 to 11 are the job's,
- * 12, 13 and 14 say that the map, the work or the plan slice is short and give the need as place. */
-struct maizespell_routing_result {
-    uint64_t refusal;
-    uint64_t place;
-    uint64_t bytes; /* plan bytes */
-    uint64_t cost;
-    uint64_t added;     /* added steps: M - n for each extension */
-    uint64_t penalties; /* penalised segments */
-    uint64_t joined;    /* nets fully joined */
-};
-
-/* Routes a job. The needs of map and work are those that sizing gives; how many bytes the plan needs is known after
- * routing, so 14 comes last. After success the map holds 0 bare, 1 to 255 that net alone, 256 several nets,
- * 257 obstacle, and the needed part of work is zero. After 14 the needed parts of map and work are zero, and so is
- * the whole plan slice. After 1 to 13 all three slices are as found. What lies past the needs of map and work is
- * always as found, and what lies past the plan after success. The slices must not overlap. It needs 53 KiB of
- * stack. */
-struct maizespell_routing_result maizespell_routing(const uint8_t *job, size_t job_len, uint16_t *map, size_t map_len,
-                                                    uint64_t *work, size_t work_len, uint8_t *plan, size_t plan_len);
+                                                  size_t plan_len, uint16_t *map, size_t map_len, uint64_t *work,
+                                                  size_t work_len);
 
 #ifdef __cplusplus
 }

@@ -10,7 +10,7 @@ use std::collections::HashSet;
 use std::fmt;
 
 use crate::library::{self, SizingResult};
-use crate::sizing;
+use crate::sizing::{self, Sizing};
 
 /// A job on which the two answers differ.
 #[derive(Debug)]
@@ -21,10 +21,14 @@ pub struct Difference {
     pub given: SizingResult,
 }
 
-/// Asks both. The expected answer, or the difference.
-pub fn ask_both(kind: &'static str, job: &[u8]) -> Result<SizingResult, Difference> {
+/// Asks this sizing and the second one. The expected answer, or the difference.
+pub fn ask_both(
+    sizing: Sizing,
+    kind: &'static str,
+    job: &[u8],
+) -> Result<SizingResult, Difference> {
     let expected = sizing::expected(job);
-    let given = library::sizing(job);
+    let given = sizing(job);
     if expected == given {
         return Ok(expected);
     }
@@ -38,7 +42,7 @@ pub fn ask_both(kind: &'static str, job: &[u8]) -> Result<SizingResult, Differen
 
 /// Asks both and fails with a report where they differ.
 pub fn check(kind: &'static str, job: &[u8]) -> SizingResult {
-    ask_both(kind, job).unwrap_or_else(|difference| panic!("{difference}"))
+    ask_both(library::sizing, kind, job).unwrap_or_else(|difference| panic!("{difference}"))
 }
 
 impl fmt::Display for Difference {
@@ -63,8 +67,13 @@ pub struct Tally {
 
 impl Tally {
     pub fn ask(&mut self, kind: &'static str, job: &[u8]) {
+        self.ask_of(library::sizing, kind, job);
+    }
+
+    /// Another sizing than the library's own.
+    pub fn ask_of(&mut self, sizing: Sizing, kind: &'static str, job: &[u8]) {
         self.jobs += 1;
-        match ask_both(kind, job) {
+        match ask_both(sizing, kind, job) {
             Ok(answer) if answer.refusal == 0 => self.good += 1,
             Ok(answer) => {
                 self.hits[answer.refusal as usize] += 1;

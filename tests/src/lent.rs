@@ -24,6 +24,9 @@ pub struct Lent {
 /// How many bytes or numbers beyond a need are lent at most.
 const MOST_BEYOND: u32 = 9;
 
+/// How often slices are lent that are a little too short, enough or too long.
+const AROUND: u32 = 3;
+
 impl Lent {
     /// This routing is asked, and its plans are put through this replay.
     pub fn of(routing: Routing, replay: Replay, seed: u64) -> Self {
@@ -45,6 +48,16 @@ impl Lent {
                 _ => {}
             });
         }
+    }
+
+    /// All that can be asked about a job, by random numbers from this seed on.
+    pub fn ask_all(&mut self, seed: u64, job: &Job) {
+        self.random = Random::new(seed);
+        self.ask_job(job, |lent, exact| {
+            lent.ask_short(exact);
+            (0..AROUND).for_each(|_| lent.ask_around(exact));
+            lent.ask_bad(job, exact);
+        });
     }
 
     /// Asks with slices as long as they must be or longer, then asks more with the
@@ -90,6 +103,19 @@ impl Lent {
             self.seen.note(format!("slice: {what} {how}"), 1);
         }
         self.ask(&case)
+    }
+
+    /// Each slice of its need, or up to two numbers shorter or longer.
+    fn ask_around(&mut self, exact: &Case) {
+        let mut around = |need: usize| (need + self.random.index(5)).saturating_sub(2);
+        let case = Case {
+            kind: "around the needs",
+            map_len: around(exact.map_len),
+            work_len: around(exact.work_len),
+            plan_len: around(exact.plan_len),
+            ..*exact
+        };
+        self.ask(&case);
     }
 
     /// One number fewer than the need, none, or anything between.
@@ -210,7 +236,7 @@ impl Lent {
             let case = self.any_lengths("too long", &bytes, exact);
             self.ask_refused(&case, 1, 0);
         }
-        for (kind, damage) in BLIND {
+        for (kind, damage) in blind::ALL {
             let mut bytes = exact.job.to_vec();
             damage(&mut bytes, &mut self.random);
             let case = self.any_lengths(kind, &bytes, exact);
@@ -233,19 +259,3 @@ impl Lent {
         }
     }
 }
-
-type Blind = fn(&mut Vec<u8>, &mut Random);
-
-/// Damage without an aim. A job that stays good needs no more than the slices of the
-/// undamaged one, or it is refused by 12 or 13.
-const BLIND: [(&str, Blind); 5] = [
-    ("bits flipped", |bytes, random| {
-        blind::flip_bits(bytes, random)
-    }),
-    ("cut", blind::cut),
-    ("lengthened", blind::lengthen),
-    ("scrambled", |bytes, random| blind::scramble(bytes, random)),
-    ("random bytes", |bytes, random| {
-        *bytes = blind::random_bytes(random)
-    }),
-];

@@ -5,18 +5,22 @@
 //!   (`generate`), and plans are too (`plan`, `wander`); `damage` makes both bad.
 //! - The second implementation reads jobs (`reader`, `sizing`), has the rules of
 //!   moves (`rules`) and nets (`joining`), searches joins (`router`) and has the calls
-//!   (`routing`, `replay`) and the program (`program`). It is itself held against
-//!   every short route (`brute`).
+//!   (`routing`, `replay`), the program (`program`) and the host (`host`). It is itself
+//!   held against every short route (`brute`).
 //! - `library` has the library's calls, and `compare` asks both; `pairs` says which
 //!   jobs and plans replay is asked about, `lent` which jobs and slices routing is, and
-//!   `seen` what came up. `stack` makes the calls with little stack.
+//!   `seen` what came up. `guarded` makes the calls on slices between pages that cannot
+//!   be touched, `fuzz` asks all of them so, `stack` makes them with little stack.
 
 pub mod bits;
 pub mod brute;
 pub mod compare;
 pub mod damage;
+pub mod fuzz;
 pub mod generate;
 pub mod grid;
+pub mod guarded;
+pub mod host;
 pub mod job;
 pub mod joining;
 pub mod largest;

@@ -48,9 +48,9 @@ pub const REPLAY: Replay = replay;
 pub const ROUTING: Routing = routing;
 
 extern "C" {
-    fn maizespell_sizing(job: *const u8, job_len: usize) -> SizingResult;
+    pub(crate) fn maizespell_sizing(job: *const u8, job_len: usize) -> SizingResult;
 
-    fn maizespell_replay(
+    pub(crate) fn maizespell_replay(
         job: *const u8,
         job_len: usize,
         plan: *const u8,
@@ -61,7 +61,7 @@ extern "C" {
         work_len: usize,
     ) -> ReplayResult;
 
-    fn maizespell_routing(
+    pub(crate) fn maizespell_routing(
         job: *const u8,
         job_len: usize,
         map: *mut u16,

@@ -55,6 +55,15 @@ impl Pairs {
         }
     }
 
+    /// All that can be asked about a job, by random numbers from this seed on.
+    pub fn ask_all(&mut self, seed: u64, job: &Job) {
+        self.random = Random::new(seed);
+        self.ask_job(job);
+        if self.random.one_in(TOO_LONG_EVERY) {
+            self.ask_too_long(job);
+        }
+    }
+
     fn ask_job(&mut self, job: &Job) {
         let board = Board::new(job);
         let sized = Sized {

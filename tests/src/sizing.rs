@@ -3,6 +3,9 @@
 use crate::library::SizingResult;
 use crate::reader::{read, Refusal};
 
+/// What a host can call.
+pub type Sizing = fn(&[u8]) -> SizingResult;
+
 /// Vertices and work need of a good job, or its refusal.
 pub fn expected(bytes: &[u8]) -> SizingResult {
     match read(bytes) {

@@ -17,7 +17,7 @@ use crate::routing::routing;
 use crate::sizing;
 use cases::{cases, Case};
 
-/// The stack that each call needs, in KiB, as `README.md` states it.
+/// The stack that each call needs, in KiB, as `README.md` and the header state it.
 pub const SIZING_KIB: usize = 18;
 pub const REPLAY_KIB: usize = 52;
 pub const ROUTING_KIB: usize = 53;

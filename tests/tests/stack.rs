@@ -2,7 +2,7 @@
 
 use std::path::Path;
 
-use maizespell_tests::stack::{least, lives, Call, PAGE};
+use maizespell_tests::stack::{least, lives, Call, KIB, PAGE};
 
 const PROGRAM: &str = env!("CARGO_BIN_EXE_stack_need");
 
@@ -16,5 +16,16 @@ fn every_call_needs_the_stack_that_is_stated() {
         assert!(lives(program, call, enough), "{name} needs more");
         let less = enough.saturating_sub(PAGE);
         assert!(!lives(program, call, less), "{name} needs less");
+    }
+}
+
+/// In its own words.
+#[test]
+fn the_header_states_the_same_stack() {
+    let header = include_str!("../../include/maizespell.h");
+    for call in Call::ALL.into_iter().filter(|call| *call != Call::None) {
+        let (name, kib) = (call.name().to_uppercase(), call.stated() / KIB);
+        let constant = format!("MAIZESPELL_{name}_STACK = {kib} * 1024");
+        assert!(header.contains(&constant), "not there: {constant}");
     }
 }

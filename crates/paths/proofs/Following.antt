@@ -21,13 +21,13 @@ use Rattle.paths.proofs.Routes.{Rest, done, more, rest-route}
 use Rattle.paths.proofs.Lowest.{lowest-passes}
 
 -- a cost that passes the test is c
-is-cost : (c : ℕ) (v : Cost) → isCost c v ≡ true → v ≡ fin c
+pub is-cost : (c : ℕ) (v : Cost) → isCost c v ≡ true → v ≡ fin c
 unfolding isCost
 is-cost c (fin n) e = ap fin (eqb-true n c e)
 is-cost c inf e = absurd (true≢false (sym e))
 
 -- c passes the test
-cost-is : (c : ℕ) (v : Cost) → v ≡ fin c → isCost c v ≡ true
+pub cost-is : (c : ℕ) (v : Cost) → v ≡ fin c → isCost c v ≡ true
 unfolding isCost
 cost-is c v e = rw e (eq-eqb c c refl)
 

@@ -43,12 +43,12 @@ behind-taken {S} {X} j joins behind = record { joins = joins; first = λ k x a. 
 
 module _ {S : System} (X : Starts S) (D : S .Place → Cost) where
   -- the cost from a start is its entry
-  at-start : {v : ℕ} → X .isStart v ≡ true → startCost X D v ≡ D (X .place v)
+  pub at-start : {v : ℕ} → X .isStart v ≡ true → startCost X D v ≡ D (X .place v)
   unfolding startCost
   at-start e = rw e
 
   -- a number with a finite cost is a start
-  is-start : (v c : ℕ) → startCost X D v ≡ fin c → X .isStart v ≡ true
+  pub is-start : (v c : ℕ) → startCost X D v ≡ fin c → X .isStart v ≡ true
   unfolding startCost
   is-start v c e = by (X .isStart v) refl
     where

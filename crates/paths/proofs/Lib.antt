@@ -11,4 +11,10 @@ pub mod Alike
 pub mod Orders
 pub mod Starts
 pub mod Joins
+pub mod Forward
+pub mod OnBest
+pub mod BestStart
+pub mod Marks
+pub mod FollowMarks
+pub mod JoinMarks
 pub mod Cheapest

@@ -2,3 +2,5 @@ pub mod Systems
 pub mod Rivals
 pub mod Distances
 pub mod Starts
+pub mod Forward
+pub mod Marks

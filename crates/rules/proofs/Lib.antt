@@ -17,6 +17,7 @@
 --     Fitting        numbers of a vertex that fit a word, for the code
 --     Held           what the code holds of a net's view, of layers and of prices
 --     Runs           counting clear vertices on both sides of a vertex
+--     Lent           the totals behind a `&mut`: the steps that the walks by hand share
 --     Certificates   a table of costs as data, shown to be a table by a test
 pub mod Vertices
 pub mod Neighbours
@@ -37,5 +38,6 @@ pub mod Certificates
 pub mod Fitting
 pub mod Held
 pub mod Runs
+pub mod Lent
 pub mod Owed
 pub mod Stepping

@@ -2,6 +2,19 @@
 
 use crate::random::Random;
 
+type Blind = fn(&mut Vec<u8>, &mut Random);
+
+/// Each kind with its name, for bytes of which there is at least one.
+pub const ALL: [(&str, Blind); 5] = [
+    ("bits flipped", |bytes, random| flip_bits(bytes, random)),
+    ("cut", cut),
+    ("lengthened", lengthen),
+    ("scrambled", |bytes, random| scramble(bytes, random)),
+    ("random bytes", |bytes, random| {
+        *bytes = random_bytes(random)
+    }),
+];
+
 /// One to four bits flipped, half the time among the first 40 bytes.
 pub fn flip_bits(bytes: &mut [u8], random: &mut Random) {
     let reach = if random.one_in(2) {

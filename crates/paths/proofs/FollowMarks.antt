@@ -1,0 +1,112 @@
+-- Following the marks of a forward search is following a table of the costs to go.
+--     marks-none, marks-goal, marks-step      nothing is followed with no move left and at a goal; else the lowest move that leads on, then the rest
+--     lowest-leads                            from a mark the lowest move that leads on is there
+--     lead-keeps, lowest-lead                 on a cheapest join a move leads on just where it keeps the table's cost; so the lowest of each is one
+--     marks-follow                            so the marks are followed as the table is
+use Prim.Native.Nat.{ℕ, zero, suc, _+_, _<_}
+use native.Mathlib.Omega.{arith}
+use mathlib.Core.Path.{_≡_, refl, sym, ap, _∙_}
+use mathlib.Core.List.{[], _∷_}
+use mathlib.Core.Bool.{Bool, true, false}
+use Rattle.paths.specs.Systems.{to, System, Legal, Lawful}
+use Rattle.paths.specs.Distances.{Cost, fin, Table, keeps, lowestKeeping, follow, onward}
+use Rattle.paths.specs.Starts.{Starts, GoodStarts}
+use Rattle.paths.specs.Forward.{LowerBound, Forward}
+use Rattle.paths.specs.Marks.{OnBest, onBest, Leads, ends, goesOn, Marks, isLead, lowestLead, leadOn, followMarks}
+use Rattle.paths.proofs.Lowest.{lowest-passes, lowest-same}
+use Rattle.paths.proofs.Following.{follow-none, follow-goal, follow-step, Kept, kept, cost-keeps}
+use Rattle.paths.proofs.OnBest.{same-fin, keeps-leads, leads-keeps}
+use Rattle.paths.proofs.Marks.{leads-map, mark-best, best-mark, leads-known, test-leads, leads-test}
+
+-- two tests that pass together are one
+same-test : (a b : Bool) → (a ≡ true → b ≡ true) → (b ≡ true → a ≡ true) → a ≡ b
+same-test true b there back = sym (there refl)
+same-test false true there back = back refl
+same-test false false there back = refl
+
+-- ---- following marks, move by move
+
+module _ (S : System) (E : S .Place → Cost) (C : ℕ) (mark : S .Place → Bool) where
+  -- nothing is followed with no move left
+  pub marks-none : (p : S .Place) → followMarks S E C mark 0 p ≡ []
+  unfolding followMarks
+  marks-none p = refl
+
+  -- nothing is followed from a goal
+  pub marks-goal : (k : ℕ) {p : S .Place} → S .goal p ≡ true → followMarks S E C mark k p ≡ []
+  unfolding followMarks
+  marks-goal zero g = refl
+  marks-goal (suc k) g = rw (g, followMarks)
+
+  -- the lowest move that leads on, then the rest
+  pub marks-step : (k : ℕ) {p q : S .Place} {e c : ℕ} → S .goal p ≡ false → E p ≡ fin e → S .step p (lowestLead S E C mark p e) ≡ to c q
+      → followMarks S E C mark (suc k) p ≡ lowestLead S E C mark p e ∷ followMarks S E C mark k q
+  unfolding followMarks leadOn onward
+  marks-step k g at leads = rw (g, followMarks, at, leads)
+
+  -- from a mark the lowest move that leads on is there: it leads to a goal at C or on to a mark at its exact distance
+  pub lowest-leads : {Good : S .Place → Type 0} {h : S .Place → ℕ} {p : S .Place} {e : ℕ} → Marks S E C Good h mark → Good p → S .goal p ≡ false
+      → E p ≡ fin e → mark p ≡ true → Leads S E C (λ q. mark q ≡ true) p e (lowestLead S E C mark p e)
+  unfolding lowestLead
+  lowest-leads {p = p} {e = e} M good g at is =
+      let (m, lead) = M .leads good g at is in
+      let test : ℕ → Bool = λ i. isLead S E C mark e (S .step p i) in
+      let (up, pass) = lowest-passes test 0 (S .moves) m (omega arith) (omega (arith, leads-known lead)) (leads-test lead) in
+      test-leads (omega (arith, leads-known lead)) pass
+
+module _ {S : System} {Good : S .Place → Type 0} {code : S .Place → ℕ} {size dearest : ℕ} (laws : Lawful S Good code size dearest)
+    {D : S .Place → Cost} (T : Table S Good D) {X : Starts S} (ok : GoodStarts S Good X) {h : S .Place → ℕ} (low : LowerBound S Good h)
+    {E : S .Place → Cost} {C : ℕ} (F : Forward S Good X h E (fin C)) {mark : S .Place → Bool} (M : Marks S E C Good h mark) where
+  -- ---- one move
+
+  -- on a cheapest join a move leads on just where it keeps the table's cost
+  pub lead-keeps : {p : S .Place} {e d : ℕ} (m : ℕ) → Good p → S .goal p ≡ false → E p ≡ fin e → D p ≡ fin d → e + d ≡ C → m < S .moves
+      → isLead S E C mark e (S .step p m) ≡ keeps S D p d m
+  lead-keeps {p} {e} {d} m good g at left sum known = same-test (isLead S E C mark e (S .step p m)) (keeps S D p d m) there back
+    where
+      there : isLead S E C mark e (S .step p m) ≡ true → keeps S D p d m ≡ true
+      there pass =
+          let on = leads-map (test-leads known pass) (λ q c legal no-goal is. mark-best laws T ok low F M (laws .keeps good legal) no-goal is) in
+          let (n, same, cost, keep) = leads-keeps laws T ok low F good g at on in
+          rw (same-fin left same) keep
+
+      back : keeps S D p d m ≡ true → isLead S E C mark e (S .step p m) ≡ true
+      back keep =
+          let on = keeps-leads laws T ok low F good g at left sum known keep in
+          leads-test (leads-map on (λ q c legal no-goal is. best-mark laws T ok low F M (laws .keeps good legal)))
+
+  -- so the lowest that leads on is the lowest that keeps the cost
+  pub lowest-lead : {p : S .Place} {e d : ℕ} → Good p → S .goal p ≡ false → E p ≡ fin e → D p ≡ fin d → e + d ≡ C
+      → lowestLead S E C mark p e ≡ lowestKeeping S D p d
+  unfolding lowestLead lowestKeeping
+  lowest-lead {p} {e} {d} good g at left sum =
+      lowest-same (λ m. isLead S E C mark e (S .step p m)) (keeps S D p d) (S .moves) (λ m known. lead-keeps m good g at left sum known) 0 (S .moves)
+      (omega arith)
+
+  -- ---- the route
+
+  -- what the lowest move that keeps the cost leads to is a goal or on a cheapest join, so that the rest is followed alike
+  rest-alike : {p : S .Place} {e d : ℕ} (k : ℕ) → Good p → S .goal p ≡ false → E p ≡ fin e → D p ≡ fin d → e + d ≡ C
+      → (on : Kept S Good D p d) → ((q : S .Place) → Good q → OnBest S E C D q → followMarks S E C mark k q ≡ follow S D k q)
+      → followMarks S E C mark k (on .next) ≡ follow S D k (on .next)
+  rest-alike {p} {e} {d} k good g at left sum on again = by (keeps-leads laws T ok low F good g at left sum (on .legal .known) keep)
+    where
+      keep : keeps S D p d (lowestKeeping S D p d) ≡ true
+      keep = cost-keeps S D p d _ (rw (on .legal .leads, on .entry) (ap fin (on .sum)))
+
+      next : {c : ℕ} {q : S .Place} → Legal S p (lowestKeeping S D p d) c q → q ≡ on .next
+      next legal = let now = on .legal .leads in let leads = legal .leads in cc
+
+      by : Leads S E C (OnBest S E C D) p e (lowestKeeping S D p d) → followMarks S E C mark k (on .next) ≡ follow S D k (on .next)
+      by (ends legal goal total) = rw (← (next legal)) (marks-goal S E C mark k goal ∙ sym (follow-goal S D k goal))
+      by (goesOn {q = q} legal no-goal there best) = rw (← (next legal)) (again q (laws .keeps good legal) best)
+
+  -- from a place on a cheapest join the marks are followed as the table is
+  pub marks-follow : {p : S .Place} (k : ℕ) → Good p → OnBest S E C D p → followMarks S E C mark k p ≡ follow S D k p
+  marks-follow {p} zero good best = marks-none S E C mark p ∙ sym (follow-none S D p)
+  marks-follow {p} (suc k) good (onBest {e = e} {d = d} g at left sum) =
+      let on = kept laws T good g left in
+      let same = lowest-lead good g at left sum in
+      let leads : S .step p (lowestLead S E C mark p e) ≡ to (on .price) (on .next) = rw same (on .legal .leads) in
+      let rest = rest-alike k good g at left sum on (λ q fine best. marks-follow {p = q} k fine best) in
+      rw (marks-step S E C mark k g at leads, follow-step S D k g left (on .legal .leads), same, rest)

@@ -1,0 +1,64 @@
+#include "calls.hpp"
+
+#include "maizespell.h"
+#include "refusals.hpp"
+
+namespace host {
+namespace {
+
+// Enough for a net of two pins not far apart.
+constexpr std::size_t first_plan_bytes = 16;
+
+// The totals of a result of routing or replay.
+template <class Result> Totals totals_of(const Result &result) {
+    return {result.cost, result.added, result.penalties, result.joined};
+}
+
+template <class Result> void throw_if_refused(const Result &result) {
+    if (result.refusal != MAIZESPELL_NOT_REFUSED) {
+        throw Refused(result.refusal, result.place);
+    }
+}
+
+maizespell_routing_result lend_to_routing(const Bytes &job, Map &map, Work &work, Bytes &plan) {
+    return maizespell_routing(job.data(), job.size(), map.data(), map.size(), work.data(), work.size(), plan.data(),
+                              plan.size());
+}
+
+} // namespace
+
+bool operator==(const Totals &left, const Totals &right) {
+    return left.cost == right.cost && left.added == right.added && left.penalties == right.penalties &&
+           left.joined == right.joined;
+}
+
+Needs size(const Bytes &job) {
+    const maizespell_sizing_result result = maizespell_sizing(job.data(), job.size());
+    throw_if_refused(result);
+    return {result.vertices, result.work};
+}
+
+Routed route(const Bytes &job, const Needs &needs) {
+    Map map(needs.map);
+    Work work(needs.work);
+    Bytes plan(first_plan_bytes);
+    maizespell_routing_result result = lend_to_routing(job, map, work, plan);
+    if (result.refusal == MAIZESPELL_PLAN_SHORT) {
+        plan = Bytes(result.place);
+        result = lend_to_routing(job, map, work, plan);
+    }
+    throw_if_refused(result);
+    plan.resize(result.bytes);
+    return {plan, {map, totals_of(result)}};
+}
+
+Joined replay(const Bytes &job, const Bytes &plan, const Needs &needs) {
+    Map map(needs.map);
+    Work work(needs.work);
+    const maizespell_replay_result result = maizespell_replay(job.data(), job.size(), plan.data(), plan.size(),
+                                                              map.data(), map.size(), work.data(), work.size());
+    throw_if_refused(result);
+    return {map, totals_of(result)};
+}
+
+} // namespace host

@@ -1,0 +1,50 @@
+// The library's calls over slices that vectors own. Each throws Refused where the library refuses.
+#ifndef HOST_CALLS_HPP
+#define HOST_CALLS_HPP
+
+#include <cstddef>
+#include <cstdint>
+#include <vector>
+
+namespace host {
+
+using Bytes = std::vector<std::uint8_t>;
+using Map = std::vector<std::uint16_t>;
+using Work = std::vector<std::uint64_t>;
+
+// What routing and replay need of a job's slices.
+struct Needs {
+    std::size_t map;
+    std::size_t work;
+};
+
+struct Totals {
+    std::uint64_t cost;
+    std::uint64_t added;
+    std::uint64_t penalties;
+    std::uint64_t joined;
+};
+
+bool operator==(const Totals &left, const Totals &right);
+
+// What stands once a plan's joins are made.
+struct Joined {
+    Map map;
+    Totals totals;
+};
+
+struct Routed {
+    Bytes plan;
+    Joined joined;
+};
+
+Needs size(const Bytes &job);
+
+// The plan's need is known only after routing: a short plan is lent first, then what the refusal asks for.
+Routed route(const Bytes &job, const Needs &needs);
+
+Joined replay(const Bytes &job, const Bytes &plan, const Needs &needs);
+
+} // namespace host
+
+#endif

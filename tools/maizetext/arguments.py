@@ -1,0 +1,32 @@
+"""The tool's command line."""
+
+import argparse
+from typing import NoReturn
+
+
+class Parser(argparse.ArgumentParser):
+    """A parser whose errors are one line, with exit status 2."""
+
+    def error(self, message: str) -> NoReturn:
+        self.exit(2, f"{self.prog}: {message}; see '{self.prog} --help'\n")
+
+
+def parser() -> Parser:
+    """All commands with their arguments."""
+    top = Parser(prog="maize", description="Jobs and plans that one can read. FILE - is standard input.")
+    commands = top.add_subparsers(dest="command", required=True, metavar="COMMAND")
+    pack = commands.add_parser("pack", help="the text form of a job to the job's bytes")
+    unpack = commands.add_parser("unpack", help="a job's bytes to its text form")
+    explain = commands.add_parser("explain", help="a plan in words, each move with its price; says where a plan breaks")
+    draw = commands.add_parser("draw", help="an SVG of every layer, with the plan's wires if there is a plan")
+    route = commands.add_parser("route", help="run the program or the host on a job and sum up its plan")
+    pack.add_argument("job", metavar="JOB.txt", help="the text form of a job")
+    unpack.add_argument("job", metavar="JOB", help="a job's bytes")
+    for command in (explain, draw, route):
+        command.add_argument("job", metavar="JOB", help="a job, as text or bytes")
+    explain.add_argument("plan", metavar="PLAN", help="a plan, as bytes or as the program's line")
+    draw.add_argument("plan", metavar="PLAN", nargs="?", help="a plan, as bytes or as the program's line")
+    router = route.add_mutually_exclusive_group()
+    router.add_argument("--program", metavar="PATH", help="the program (else MAIZESPELL_PROGRAM, else target/bin/maizespell)")
+    router.add_argument("--host", metavar="PATH", help="the host of examples/host, which routes larger jobs too")
+    return top

@@ -1,0 +1,72 @@
+"""What each command does with its arguments: it writes to standard output and answers the exit status."""
+
+import sys
+from argparse import Namespace
+
+from maizetext.draw import draw
+from maizetext.errors import InputError
+from maizetext.explain import explain
+from maizetext.files import (
+    bytes_from_either, job_from_bytes, job_from_either, job_from_text, plan_from_either, read_file
+)
+from maizetext.job_packing import pack_job
+from maizetext.replay import replay
+from maizetext.route import plan_by_host, plan_by_program, program_path, summary
+from maizetext.text_writing import write_text
+
+
+def pack_command(given: Namespace) -> int:
+    """Text to bytes."""
+    sys.stdout.buffer.write(pack_job(job_from_text(given.job, read_file(given.job))))
+    return 0
+
+
+def unpack_command(given: Namespace) -> int:
+    """Bytes to text."""
+    write(write_text(job_from_bytes(given.job, read_file(given.job))))
+    return 0
+
+
+def explain_command(given: Namespace) -> int:
+    """A plan in words; 1 where it breaks."""
+    job = job_from_either(given.job, read_file(given.job))
+    text, legal = explain(job, plan_from_either(given.plan, read_file(given.plan)))
+    write(text)
+    return 0 if legal else 1
+
+
+def draw_command(given: Namespace) -> int:
+    """A picture of a job, and of a legal plan if there is one."""
+    job = job_from_either(given.job, read_file(given.job))
+    trace = None
+    if given.plan is not None:
+        trace = replay(job, plan_from_either(given.plan, read_file(given.plan)))
+        if trace.broken:
+            raise InputError(f"{given.plan}: the plan breaks: {trace.broken}")
+    write(draw(job, trace))
+    return 0
+
+
+def route_command(given: Namespace) -> int:
+    """The plan of the program or of the host, summed up."""
+    data = bytes_from_either(given.job, read_file(given.job))
+    if given.host is not None:
+        plan = plan_by_host(given.host, given.job, data)
+    else:
+        plan = plan_by_program(program_path(given.program), given.job, data)
+    write(summary(job_from_bytes(given.job, data), plan))
+    return 0
+
+
+def write(text: str) -> None:
+    """Text to standard output, the same bytes in every locale."""
+    sys.stdout.buffer.write(text.encode("utf-8"))
+
+
+COMMANDS = {
+    "pack": pack_command,
+    "unpack": unpack_command,
+    "explain": explain_command,
+    "draw": draw_command,
+    "route": route_command,
+}

@@ -1,0 +1,78 @@
+"""A plan in words."""
+
+import unittest
+
+import support  # noqa: F401
+from maizetext.explain import explain
+from maizetext.grid import HIGH, LOW, UP, Vertex
+from maizetext.job_reading import read_job
+from maizetext.plan import Join, pack_plan
+from marked import LETTERS, RECORDS, job_bytes, plan_bytes
+
+B = """\
+job: 2 layers, 4 rows, 8 columns; 1 net, 0 obstacles
+net 1: pins (0,0,0) (0,1,3)
+  join 1 from (0,0,0)
+         move  enters       base  guide  short  overhead    so far
+      1  high  (0,0,1)         1      -      -         -         1
+      2  high  (0,0,2)         1      -      -         -         2
+      3  high  (0,0,3)         1      -      -         -         3
+      4  up    (1,0,3)         2      -      -         -         5
+      5  high  (1,1,3)         1      -      -         -         6
+      6  down  (0,1,3)         2      -      -         2        10  extension (1,2,3) (1,3,3)
+    cost 10, as recorded
+  joined: cost 10
+totals: cost 10, added steps 2, penalised segments 0, nets fully joined 1 of 1
+the plan is legal and its recorded costs are right
+"""
+
+
+class Explained(unittest.TestCase):
+    def explained(self, letter: str, plan: bytes) -> tuple[list[str], bool]:
+        text, legal = explain(read_job(job_bytes(letter)), plan)
+        return text.splitlines(), legal
+
+    def test_b_in_full(self):
+        self.assertEqual(explain(read_job(job_bytes("B")), plan_bytes("B")), (B, True))
+
+    def test_recorded_costs_of_all(self):
+        for letter in LETTERS:
+            with self.subTest(letter):
+                lines, legal = self.explained(letter, plan_bytes(letter))
+                self.assertTrue(legal)
+                said = [line for line in lines if line.startswith("    cost")]
+                costs = [f"    cost {join.cost}, as recorded" for join in RECORDS[letter] if join]
+                self.assertEqual(said, costs)
+
+    def test_penalties(self):
+        self.assertTrue(any(line.endswith("50        58  area penalty") for line in self.explained("C", plan_bytes("C"))[0]))
+        self.assertIn("      3  high  (0,0,3)         1     10      -         -        13", self.explained("J", plan_bytes("J"))[0])
+        self.assertIn("      1  up    (1,1,0)         2      -     20         -        22", self.explained("K", plan_bytes("K"))[0])
+
+    def test_nets_are_told_apart(self):
+        lines = self.explained("K", plan_bytes("K"))[0]
+        said = [line for line in lines if line.startswith(("net", "  join ", "  joined"))]
+        self.assertEqual(said[:3], ["net 1: pins (1,0,0) (1,2,0)", "  join 1 from (1,0,0)", "  joined: cost 2"])
+        self.assertEqual(said[3:], ["net 2: pins (0,1,0) (2,1,0)", "  join 1 from (0,1,0)", "  joined: cost 74"])
+
+    def test_no_join(self):
+        lines, legal = self.explained("L", plan_bytes("L"))
+        self.assertTrue(legal)
+        self.assertIn("  no join: open (2,1,0)", lines)
+        self.assertEqual(lines[-2], "totals: cost 2, added steps 0, penalised segments 0, nets fully joined 1 of 2")
+
+    def test_where_a_plan_breaks(self):
+        plan = pack_plan([Join(Vertex(0, 0, 0), (HIGH, HIGH, LOW, UP), 3)])
+        lines, legal = self.explained("B", plan)
+        self.assertFalse(legal)
+        self.assertEqual(lines[5], "      2  high  (0,0,2)         1      -      -         -         2")
+        self.assertTrue(lines[6].startswith("totals: cost 0,"), lines[6])
+        self.assertIn("the plan breaks at bit 44; replay gives: refused 17 at 44: a move is not legal", lines[7])
+        self.assertIn("move 'low' from (0,0,2) is not legal: the step goes back: the segment runs high", lines[7])
+
+    def test_a_wrong_cost_is_not_said_to_be_right(self):
+        lines, legal = self.explained("A", pack_plan([Join(Vertex(0, 0, 0), (HIGH,) * 3, 4)]))
+        self.assertFalse(legal)
+        self.assertFalse([line for line in lines if "as recorded" in line or "joined: cost" in line])
+        self.assertIn("refused 18 at 46", lines[-1])
+        self.assertIn("4 is recorded, the moves cost 3", lines[-1])

@@ -1,0 +1,36 @@
+"""The program on the examples, where it is built: the plans are those of the table and of the examples."""
+
+import os
+import unittest
+
+import support  # noqa: F401
+from maizetext.errors import InputError
+from maizetext.job_packing import pack_job
+from maizetext.route import plan_by_program, program_path
+from maizetext.text_reading import read_text
+from marked import LETTERS, job_bytes, plan_bytes
+from support import EXAMPLES
+
+PROGRAM = program_path(None)
+
+
+def routed(name: str) -> bytes:
+    """The program's plan of an example."""
+    return plan_by_program(PROGRAM, name, pack_job(read_text((EXAMPLES / name).read_text(), name)))
+
+
+@unittest.skipUnless(os.access(PROGRAM, os.X_OK), "the program is not built")
+class WithProgram(unittest.TestCase):
+    def test_marked_jobs(self):
+        for letter in LETTERS:
+            with self.subTest(letter):
+                self.assertEqual(plan_by_program(PROGRAM, letter, job_bytes(letter)), plan_bytes(letter))
+
+    def test_the_crossing(self):
+        self.assertEqual(routed("crossing.txt"), bytes.fromhex((EXAMPLES / "crossing.plan").read_text()))
+
+    def test_larger_ones_are_too_large(self):
+        for name in ("bus.txt", "macros.txt"):
+            with self.assertRaises(InputError) as caught:
+                routed(name)
+            self.assertIn(f"{name}: no plan: the job is too large", str(caught.exception))

@@ -1,0 +1,117 @@
+"""Plans walked: against what a second replay answers, and plans damaged one by one."""
+
+import unittest
+
+import support
+from maizetext.grid import DOWN, HIGH, LOW, UP, Vertex
+from maizetext.job_reading import read_job
+from maizetext.plan import Join, pack_plan
+from maizetext.refusals import Refused
+from maizetext.replay import replay
+from marked import LETTERS, job_bytes, plan_bytes
+
+COSTS = {"A": 3, "B": 10, "C": 58, "D": 0, "E": 7, "F": 54, "G": 0, "H": 17, "I": 10, "J": 13, "K": 76, "L": 2}
+
+
+def answer(job: bytes, plan: bytes) -> tuple[int, ...]:
+    """What replay answers: refusal, place and totals."""
+    try:
+        trace = replay(read_job(job), plan)
+    except Refused as refused:
+        return refused.number, refused.place, 0, 0, 0, 0
+    if trace.broken:
+        return trace.broken.number, trace.broken.place, 0, 0, 0, 0
+    return 0, 0, trace.total("cost"), trace.total("added"), trace.total("penalised"), trace.joined()
+
+
+class SecondReplay(unittest.TestCase):
+    def test_answers_agree(self):
+        lines = (support.TOOLS / "tests" / "replays.txt").read_text().splitlines()
+        pairs = [line.split("|") for line in lines if not line.startswith("#")]
+        met = set()
+        for job, plan, expected in pairs:
+            numbers = tuple(map(int, expected.split()))
+            met.add(numbers[0])
+            with self.subTest(job=job, plan=plan):
+                self.assertEqual(answer(bytes.fromhex(job), bytes.fromhex(plan)), numbers)
+        self.assertEqual(met, {0, *range(2, 12), *range(15, 19)})
+
+
+class MarkedPlans(unittest.TestCase):
+    def test_costs_are_those_by_hand(self):
+        for letter in LETTERS:
+            with self.subTest(letter):
+                number, place, cost, *_ = answer(job_bytes(letter), plan_bytes(letter))
+                self.assertEqual((number, place, cost), (0, 0, COSTS[letter]))
+
+    def test_the_plan_of_a_is_as_documented(self):
+        self.assertEqual(plan_bytes("A").hex(" ").upper(), "80 00 00 00 03 54 00 00 00 00 0C")
+
+    def test_join_by_join(self):
+        for letter, costs in (("I", [3, 7]), ("K", [2, 74]), ("L", [2])):
+            trace = replay(read_job(job_bytes(letter)), plan_bytes(letter))
+            self.assertEqual([join.cost() for net in trace.nets for join in net.joins], costs)
+
+    def test_extensions_and_penalties(self):
+        self.assertEqual(answer(job_bytes("B"), plan_bytes("B"))[3:], (2, 0, 1))
+        self.assertEqual(answer(job_bytes("C"), plan_bytes("C"))[3:], (0, 1, 1))
+        self.assertEqual(answer(job_bytes("H"), plan_bytes("H"))[3:], (4, 0, 1))
+
+    def test_the_last_segment_pays_none(self):
+        trace = replay(read_job(job_bytes("B")), plan_bytes("B"))
+        self.assertEqual(trace.nets[0].joins[0].moves[-1].over.laid, (Vertex(1, 2, 3), Vertex(1, 3, 3)))
+
+
+class DamagedPlans(unittest.TestCase):
+    def broken(self, letter: str, plan: bytes, number: int, place: int, part: str = "") -> None:
+        broken = replay(read_job(job_bytes(letter)), plan).broken
+        self.assertIsNotNone(broken)
+        self.assertEqual((broken.number, broken.place), (number, place))
+        self.assertIn(part, str(broken))
+
+    def join(self, letter: str, moves: tuple[int, ...], number: int, place: int, part: str) -> None:
+        self.broken(letter, pack_plan([Join(Vertex(0, 0, 0), moves, 3)]), number, place, part)
+
+    def test_cut_plans(self):
+        plan = plan_bytes("A")
+        self.broken("A", b"", 15, 0)
+        self.broken("A", plan[:4], 15, 1)
+        self.broken("A", plan[:5], 15, 40)
+        self.broken("A", plan[:9], 15, 46)
+
+    def test_every_cut_of_a_plan(self):
+        plan = pack_plan([None, Join(Vertex(0, 1, 0), (UP, UP), 54)])
+        self.assertIsNone(replay(read_job(job_bytes("K")), plan).broken)
+        starts = [0] + [2] * 5 + [45] * 5
+        self.assertEqual(len(starts), len(plan))
+        for length, start in enumerate(starts):
+            self.broken("K", plan[:length], 15, start)
+
+    def test_tails(self):
+        plan = plan_bytes("A")
+        self.broken("A", plan + b"\x00", 15, 86)
+        self.broken("A", plan[:-1] + bytes([plan[-1] | 1]), 15, 86)
+
+    def test_starts(self):
+        self.broken("A", pack_plan([Join(Vertex(0, 0, 1), (HIGH, HIGH), 2)]), 16, 1, "(0,0,1)")
+        self.broken("A", pack_plan([Join(Vertex(7, 0, 0), (HIGH,), 2)]), 16, 1)
+
+    def test_moves(self):
+        self.join("A", (), 17, 20, "the count of moves is 0")
+        self.join("A", (LOW,), 17, 40, "'low' from (0,0,0) is not legal: low from (0,0,0) leaves the grid")
+        self.join("A", (DOWN,), 17, 40, "leaves the grid")
+        self.join("A", (HIGH, LOW), 17, 42, "the step goes back: the segment runs high")
+        self.join("A", (HIGH, HIGH), 17, 42, "the last move enters (0,0,2), which is no unjoined pin")
+        self.join("A", (HIGH, HIGH, HIGH, HIGH), 17, 44, "enters the unjoined pin (0,0,3) before the last move")
+        self.join("G", (UP, UP), 17, 42, "lacks 3 of 3 steps, there is no room, and the area penalty is closed")
+
+    def test_closed_shorts_and_other_pins(self):
+        first = Join(Vertex(1, 0, 0), (HIGH, HIGH), 2)
+        self.broken("L", pack_plan([first, Join(Vertex(0, 1, 0), (UP, UP), 4)]), 17, 124, "the short penalty is closed")
+        self.broken("K", pack_plan([None, Join(Vertex(0, 1, 0), (UP, LOW), 4)]), 17, 43, "(1,0,0) is a pin of net 1")
+
+    def test_costs(self):
+        for letter, cost in (("B", 9), ("B", 11)):
+            moves = (HIGH, HIGH, HIGH, UP, HIGH, DOWN)
+            plan = pack_plan([Join(Vertex(0, 0, 0), moves, cost)])
+            self.broken(letter, plan, 18, 52, f"{cost} is recorded, the moves cost 10")
