@@ -3,7 +3,7 @@
 --     clear-all, clear-some                  a run is lengthened where as many are clear as are missing
 --     fresh-high, fresh-low, fresh-neither   the overhead of a fresh segment
 --     running-clear, running-unclear         of a running one
---     owed-nothing, .. owed-forbidden        what a via move makes of each
+--     few-added                              an extension has few vertices
 use Prim.Native.Nat.{ℕ, zero, suc, _-_, _*_, _≤_, _<_}
 use mathlib.Core.Path.{_≡_, refl, sym, ap, subst, _∙_}
 use mathlib.Core.List.{List}
@@ -15,7 +15,7 @@ use Rattle.rules.specs.Views.{View}
 use Rattle.rules.specs.Segments.{Direction, low, high, Segment, fresh, running}
 use Rattle.rules.specs.Prices.{Tech, lineOf}
 use Rattle.rules.specs.Overheads.{toward, clearRun, Overhead, lengthened, otherwise, lengthenedBy, overheadOf}
-use Rattle.rules.specs.Structs.{directionOf, runsOf, techBy, TechFits, overheadBy, WholeOverhead, IsOverhead, IsOverheadAnywhere}
+use Rattle.rules.specs.Structs.{directionOf, runsOf, techBy, TechFits, overheadBy, WholeOverhead, FewAdded, IsOverhead, IsOverheadAnywhere}
 use Rattle.rules.specs.declared.segment.Direction.{Direction as DirectionEnum}
 use Rattle.rules.specs.declared.segment.Direction.the-variants.{Low, High}
 use Rattle.rules.specs.declared.overhead.Overhead.{Overhead as OverheadEnum}
@@ -85,3 +85,11 @@ module _ (t : Tech) (view : View) (v : ℕ) where
     running-unclear ne a o =
         let here = o (t .grid) view v in
         record { same = here .same ∙ rw (← is, a) (sym (clear-some missing _ _ ne)); whole = here .whole }
+
+-- an extension that is clear throughout has few vertices
+pub few-added : (g : Grid) (view : View) (v : ℕ) (r : OverheadEnum) → WholeOverhead g view v r → FewAdded r
+unfolding WholeOverhead FewAdded
+few-added g view v Nothing whole = tt
+few-added g view v (Lengthened d n) whole = whole .few
+few-added g view v Penalised whole = tt
+few-added g view v Forbidden whole = tt

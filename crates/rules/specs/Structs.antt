@@ -127,6 +127,13 @@ WholeOverhead g view v (Lengthened d n) = Whole g view v d n
 WholeOverhead g view v Penalised = Unit
 WholeOverhead g view v Forbidden = Unit
 
+-- an extension has fewer than 16 vertices
+unfoldable pub FewAdded : OverheadEnum → Type 0
+FewAdded Nothing = Unit
+FewAdded (Lengthened d n) = n < 16
+FewAdded Penalised = Unit
+FewAdded Forbidden = Unit
+
 pub record IsOverhead (g : Grid) (view : View) (v : ℕ) (r : OverheadEnum) (o : Overhead) : Type 0 where
   pub same : overheadBy g view v r ≡ o
   pub whole : WholeOverhead g view v r

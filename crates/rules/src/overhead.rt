@@ -50,7 +50,7 @@ pub enum Overhead {
 }
 
 // The area penalty, or that the move is forbidden if that is closed.
-fn otherwise(area: usize) -> Overhead
+pub fn otherwise(area: usize) -> Overhead
     ensures { λ r. ⌜ IsOverheadAnywhere r (otherwise area) ⌝ }
 {
     if area == Penalty::CLOSED {
@@ -61,7 +61,7 @@ fn otherwise(area: usize) -> Overhead
 }
 
 // How many steps a length lacks.
-fn missing_of(least: usize, length: usize) -> usize
+pub fn missing_of(least: usize, length: usize) -> usize
     ensures { λ r. ⌜ r ≡ least - length ⌝ }
 {
     if length < least { least - length } else { 0 }

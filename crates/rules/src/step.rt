@@ -3,12 +3,13 @@ ghost use mathlib.Core.Path.{_≡_};
 ghost use Prim.Native.Nat.{_<_};
 ghost use Rattle.job.specs.Grid.{vertices};
 ghost use Rattle.job.specs.Structs.{gridOf};
+ghost use Rattle.rules.specs.Views.{View};
 ghost use Rattle.rules.specs.Segments.{grow};
 ghost use Rattle.rules.specs.Prices.{lineOf};
-ghost use Rattle.rules.specs.Overheads.{overheadOf};
+ghost use Rattle.rules.specs.Overheads.{overheadOf, Overhead as Owed};
 ghost use Rattle.rules.specs.Steps.{stepping, leaving, bySegment, step};
 ghost use Rattle.rules.specs.Seen.{viewBy};
-ghost use Rattle.rules.specs.Structs.{Short, directionOf, segmentOf, TechFits, techBy, placeOf, IsStepped, IsSteppedAnywhere, byVia};
+ghost use Rattle.rules.specs.Structs.{Short, directionOf, segmentOf, TechFits, techBy, FewAdded, IsOverhead, placeOf, IsStepped, IsSteppedAnywhere, byVia};
 use crate::overhead::Overhead;
 use crate::overhead::overhead_of;
 use crate::price::Tech;
@@ -47,7 +48,13 @@ pub enum Stepped {
 }
 
 // A step along the track costs no overhead.
-fn step_along(tech: Tech, place: Place, direction: Direction, into: usize, enter: usize) -> Stepped
+pub fn step_along(
+    tech: Tech,
+    place: Place,
+    direction: Direction,
+    into: usize,
+    enter: usize,
+) -> Stepped
     requires { ⌜ (TechFits tech) × (place .vertex < vertices (gridOf (tech .grid))) × (Short (place .segment)) ⌝ }
     ensures { λ r. ⌜ IsSteppedAnywhere r
         (stepping into enter (grow (lineOf (techBy tech) (place .vertex) .minLength) (directionOf direction) (segmentOf (place .segment)))) ⌝ }
@@ -94,16 +101,13 @@ fn by_via(
     })
 }
 
-// A via move owes overhead for a segment that is too short.
-fn leave_layer(tech: Tech, seen: &[u8; 16384], place: Place, into: usize, enter: usize) -> Stepped
-    requires { ⌜ (TechFits tech) × (place .vertex < vertices (gridOf (tech .grid))) ⌝ }
-    ensures { λ r. ⌜ (let view = viewBy (gridOf (tech .grid)) (now (seen .entry)) in
-        IsStepped (gridOf (tech .grid)) view (place .vertex) r
-        (leaving (techBy tech) (place .vertex) into enter (overheadOf (techBy tech) view (place .vertex) (segmentOf (place .segment))))) ⌝ }
+// A via move out of a vertex, by what it owes.
+pub fn leave_by(tech: Tech, v: usize, into: usize, enter: usize, overhead: Overhead) -> Stepped
+    requires { ⌜ (TechFits tech) × (v < vertices (gridOf (tech .grid))) × (FewAdded overhead) ⌝ }
+    ensures { λ r. ⌜ ((view : View) (owed : Owed) → IsOverhead (gridOf (tech .grid)) view v overhead owed
+        → IsStepped (gridOf (tech .grid)) view v r (leaving (techBy tech) v into enter owed)) ⌝ }
 {
-    let line = line_of(tech, place.vertex);
-    let segment = place.segment;
-    let overhead = overhead_of(tech, seen, place.vertex, segment);
+    let line = line_of(tech, v);
     match overhead {
         Overhead::Nothing => by_via(into, enter, 0, Direction::High, 0, 0),
         Overhead::Lengthened(toward, added) => {
@@ -112,6 +116,23 @@ fn leave_layer(tech: Tech, seen: &[u8; 16384], place: Place, into: usize, enter:
         Overhead::Penalised => by_via(into, enter, line.area, Direction::High, 0, 1),
         Overhead::Forbidden => Stepped::Illegal,
     }
+}
+
+// A via move owes overhead for a segment that is too short.
+fn leave_layer(tech: Tech, seen: &[u8; 16384], place: Place, into: usize, enter: usize) -> Stepped
+    requires { ⌜ (TechFits tech) × (place .vertex < vertices (gridOf (tech .grid))) ⌝ }
+    ensures { λ r. ⌜ (let view = viewBy (gridOf (tech .grid)) (now (seen .entry)) in
+        IsStepped (gridOf (tech .grid)) view (place .vertex) r
+        (leaving (techBy tech) (place .vertex) into enter (overheadOf (techBy tech) view (place .vertex) (segmentOf (place .segment))))) ⌝ }
+{
+    let segment = place.segment;
+    leave_by(
+        tech,
+        place.vertex,
+        into,
+        enter,
+        overhead_of(tech, seen, place.vertex, segment),
+    )
 }
 
 // What the move's number asks of the segment.

@@ -1,0 +1,101 @@
+-- An indexed heap in a lent slice of words, over n items numbered from 0. Word c (c < n) is the entry of item c: its key and its slot. The
+-- key is 0 where the item was never touched, else its distance and 1; the slot is the item's place in the heap, or n or more where it has
+-- left it (it is settled). Word n + i is for place i of the heap: the key of the item there, and in the slot's stead its number, so that keys are
+-- compared in the heap's words alone. What the items are is not said here.
+--     keyOf, slotOf, wordOf     the key and the slot of an entry, and an entry of the two
+--     itemAt, keyAt             the item at a place, and its key
+--     above                     the place above a place
+--     Open, In                  an entry's item is in the heap
+--     Seated                    each item of the heap knows its place
+--     Heaped                    and none has a lesser key than the one above it
+--     Lowered                   what `lower` does
+--     Taken                     what `take_least` does
+use Prim.Native.Nat.{ℕ, _+_, _-_, _*_, _/_, _%_, _≤_, _<_}
+use mathlib.Core.Path.{_≡_}
+use mathlib.Core.List.{List}
+use lib.ListN.{length, getD}
+
+-- ---- entries
+
+-- the key of an entry
+unfoldable pub keyOf : (word : ℕ) → ℕ
+keyOf word = word / 1048576
+
+-- its slot
+unfoldable pub slotOf : (word : ℕ) → ℕ
+slotOf word = word % 1048576
+
+-- an entry of the two
+unfoldable pub wordOf : (key slot : ℕ) → ℕ
+wordOf key slot = key * 1048576 + slot
+
+-- the entry says that its item is in the heap
+pub record Open (n word : ℕ) : Type 0 where
+  pub touched : 0 < keyOf word
+  pub placed : slotOf word < n
+
+-- an item is in the heap
+abbrev pub In : (work : List ℕ) → (n c : ℕ) → Type 0
+In work n c = Open n (getD work c 0)
+
+-- ---- places
+
+-- the item at a place
+abbrev pub itemAt : (work : List ℕ) → (n i : ℕ) → ℕ
+itemAt work n i = slotOf (getD work (n + i) 0)
+
+-- its key
+abbrev pub keyAt : (work : List ℕ) → (n i : ℕ) → ℕ
+keyAt work n i = keyOf (getD work (itemAt work n i) 0)
+
+-- the place above a place
+abbrev pub above : ℕ → ℕ
+above i = (i - 1) / 2
+
+-- ---- the heap
+
+-- the item at each place is in the heap with that place as its slot, and each item in the heap stands at its slot
+pub record Seated (n size : ℕ) (work : List ℕ) : Type 0 where
+  pub room : n + n ≤ length work
+  pub few : n ≤ 524288
+  pub fits : size ≤ n
+  pub small : (c : ℕ) → c < n → keyOf (getD work c 0) ≤ 1099511627776
+  pub items : (i : ℕ) → i < size → itemAt work n i < n
+  pub touched : (i : ℕ) → i < size → 0 < keyAt work n i
+  pub slots : (i : ℕ) → i < size → slotOf (getD work (itemAt work n i) 0) ≡ i
+  pub agree : (i : ℕ) → i < size → keyOf (getD work (n + i) 0) ≡ keyAt work n i
+  pub within : (c : ℕ) → c < n → In work n c → slotOf (getD work c 0) < size
+  pub seats : (c : ℕ) → c < n → In work n c → itemAt work n (slotOf (getD work c 0)) ≡ c
+
+-- and the key above each place is at most the key there
+pub record Heaped (n size : ℕ) (work : List ℕ) : Type 0 where
+  pub seated : Seated n size work
+  pub order : (i : ℕ) → 0 < i → i < size → keyAt work n (above i) ≤ keyAt work n i
+
+-- ---- what is done to it
+
+-- An item that was never touched is put in, and one in the heap with a greater key is given the lesser; else nothing changes. The other
+-- items keep their keys, and are in the heap as before.
+pub record Lowered (n size item distance : ℕ) (found work : List ℕ) (now : ℕ) : Type 0 where
+  pub heaped : Heaped n now work
+  pub long : length work ≡ length found
+  pub new : keyOf (getD found item 0) ≡ 0 → (now ≡ size + 1) × In work n item × (keyOf (getD work item 0) ≡ distance + 1)
+  pub better : In found n item → distance + 1 < keyOf (getD found item 0) → (now ≡ size) × In work n item × (keyOf (getD work item 0) ≡ distance + 1)
+  pub same : 0 < keyOf (getD found item 0) → (In found n item → keyOf (getD found item 0) ≤ distance + 1) → (now ≡ size) × (work ≡ found)
+  pub keys : (c : ℕ) → c < n → (c ≡ item → ⊥) → keyOf (getD work c 0) ≡ keyOf (getD found c 0)
+  pub stays : (c : ℕ) → c < n → (c ≡ item → ⊥) → In found n c → In work n c
+  pub still : (c : ℕ) → c < n → (c ≡ item → ⊥) → (In found n c → ⊥) → getD work c 0 ≡ getD found c 0
+  pub beyond : (j : ℕ) → n + now ≤ j → getD work j 0 ≡ getD found j 0
+
+-- An item of the heap with the least key is taken out. Every item keeps its key, and the others are in the heap as before.
+pub record Taken (n size item : ℕ) (found work : List ℕ) : Type 0 where
+  pub heaped : Heaped n (size - 1) work
+  pub long : length work ≡ length found
+  pub known : item < n
+  pub was : In found n item
+  pub least : (c : ℕ) → c < n → In found n c → keyOf (getD found item 0) ≤ keyOf (getD found c 0)
+  pub gone : In work n item → ⊥
+  pub keys : (c : ℕ) → c < n → keyOf (getD work c 0) ≡ keyOf (getD found c 0)
+  pub stays : (c : ℕ) → c < n → (c ≡ item → ⊥) → In found n c → In work n c
+  pub still : (c : ℕ) → c < n → (In found n c → ⊥) → getD work c 0 ≡ getD found c 0
+  pub beyond : (j : ℕ) → n + (size - 1) ≤ j → getD work j 0 ≡ getD found j 0

@@ -1,0 +1,24 @@
+-- `runs::fill::count_in` meets its contract.
+use mathlib.Core.Path.{refl}
+use borrow.Author.Needs.{needs}
+use Rattle.rules.specs.Structs.{directionOf}
+use Rattle.runs.specs.Runs.{countIn}
+use Rattle.runs.proofs.fill.count_in.Statement.{statement}
+use Rattle.runs.proofs.fill.count_in.Tie as tie
+
+enum-told : tie.Need-enum-told
+enum-told c = search needs
+
+enum-told-2 : tie.Need-enum-told-2
+enum-told-2 c = search needs
+
+returns : tie.Need-returns
+unfolding countIn directionOf
+returns c = rw (c .enum-told .given .1) refl
+
+returns-2 : tie.Need-returns-2
+unfolding countIn directionOf
+returns-2 c = rw (c .enum-told2 .given .1) refl
+
+pub count-in-spec : {M : Type 1} → statement M
+count-in-spec = tie.close (tie.spec enum-told enum-told-2 returns returns-2)
