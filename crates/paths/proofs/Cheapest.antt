@@ -7,7 +7,7 @@
 --     table-bounds, table-dist, dist-table        no rival costs less than a table says; a table is `dist`, and `dist` is a table
 --     follow-route, follow-first, follow-short    following a table is a route at its cost, the first of them, of fewer than `size` moves
 --     follow-same, follow-dist                    tables that agree are followed alike, so a table is followed as `dist` is
---     route-cost, cost-fits                       what a route costs at most
+--     route-cost                                  what a route costs at most
 -- From numbered starts:
 --     start-least, start-none                     no rival from a start costs less than the best; where no start is best there is no rival
 --     start-dist                                  a table has the best start that `dist` has
@@ -25,8 +25,7 @@
 -- Orders of move lists and of joins:
 --     before-irrefl, before-trans, before-total, ahead-irrefl, ahead-trans, ahead-total
 -- Not here: one move of `follow` (Following, Lowest) and of `followMarks` (FollowMarks), the test of a move that leads on (Marks), what `best` chooses (Starts), the order of costs (Costs).
-use Prim.Native.Nat.{ℕ, _*_, _<_}
-use native.Mathlib.Omega.{arith}
+use Prim.Native.Nat.{ℕ}
 use mathlib.Core.Path.{_≡_}
 use mathlib.Core.List.{List}
 use Rattle.paths.specs.Systems.{System, Lawful}
@@ -46,7 +45,6 @@ pub use Rattle.paths.proofs.BestStart.{forward-none, some-start, start-
 pub use Rattle.paths.proofs.Marks.{mark-best, best-mark}
 pub use Rattle.paths.proofs.FollowMarks.{lead-keeps, lowest-lead, marks-follow}
 pub use Rattle.paths.proofs.JoinMarks.{marks-best, marks-join, marks-taken}
-use Rattle.paths.proofs.First.{entry-cost}
 
 module _ {S : System} {Good : S .Place → Type 0} {code : S .Place → ℕ} {size dearest : ℕ} (laws : Lawful S Good code size dearest) where
   -- no rival, of any length, costs less than dist
@@ -61,7 +59,3 @@ module _ {S : System} {Good : S .Place → Type 0} {code : S .Place → ℕ} {si
     -- a table is followed as dist is
     pub follow-dist : {s : S .Place} (k : ℕ) → Good s → follow S D k s ≡ follow S (dist S size) k s
     follow-dist k good = follow-same laws (λ s fine. table-dist laws T fine) T k good
-
-    -- a finite entry is below whatever the dearest price for each place is below
-    pub cost-fits : {s : S .Place} {n : ℕ} (bound : ℕ) → size * dearest < bound → Good s → D s ≡ fin n → n < bound
-    cost-fits bound h good e = omega (arith, entry-cost laws T good e)

@@ -8,7 +8,7 @@ use reader::layers::largest_least;
 use rules::price::Tech;
 
 // Its layers with the largest M, its needs, how many nets it has and at which bit they begin.
-pub struct Held {
+pub(crate) struct Held {
     pub tech: Tech,
     pub largest: usize,
     pub vertices: usize,
@@ -17,7 +17,7 @@ pub struct Held {
     pub from: usize,
 }
 
-pub fn held_of(head: Head, layers: Layers) -> Held
+pub(crate) fn held_of(head: Head, layers: Layers) -> Held
     requires { ⌜ HeadHolds head layers ⌝ }
     ensures { λ r. ⌜ r ≡ heldOf head layers ⌝ }
 {
@@ -41,12 +41,12 @@ pub fn held_of(head: Head, layers: Layers) -> Held
 }
 
 // Both slices are long enough; or 12 or 13 with the need.
-pub enum Room {
+pub(crate) enum Room {
     Enough,
     Short(usize, usize),
 }
 
-pub fn room_for(vertices: usize, need: usize, map: &[u16], work: &[u64]) -> Room
+pub(crate) fn room_for(vertices: usize, need: usize, map: &[u16], work: &[u64]) -> Room
     ensures { λ r. ⌜ r ≡ roomAnswer (roomFor vertices need (now (map .entry)) (now (work .entry))) ⌝ }
 {
     if map.len() < vertices {

@@ -1,5 +1,5 @@
 // The public calls. A host calls them with any bytes and slices of any length.
-pub mod held;
+mod held;
 pub mod replay_call;
 pub mod routing_call;
 pub mod sizing;

@@ -1,7 +1,7 @@
 -- The tree and the unjoined pins are apart in every standing.
 --     fails                        a test that fails, as an equation
 --     begun-apart                  before the first join of a net
---     nets-apart, net-apart        of every net of a good job, and of the k-th
+--     nets-apart                   of every net of a good job
 --     distinct-both                vertices of two lists that are distinct
 --     all-at                       what holds of every element holds of the k-th
 --     joined-apart                 after a join
@@ -102,12 +102,6 @@ unfolding All
 all-at P [] k d h on = absurd (not-suc-le-zero on)
 all-at P (x ∷ xs) zero d h on = h .0
 all-at P (x ∷ xs) (suc k) d h on = all-at P xs k d (h .1) (le-of-suc-le-suc on)
-
--- the k-th net of a good job
-pub net-apart : {j : Job} (k : ℕ) (d : Net) (metal : List (List ℕ)) → GoodJob j → k < length (j .nets)
-    → Stands (techOf j) (begun (pinsOf (j .grid) (getD (j .nets) k d)) metal)
-net-apart {j} k d metal good on =
-    all-at (λ net. (rest : List (List ℕ)) → Stands (techOf j) (begun (pinsOf (j .grid) net) rest)) (j .nets) k d (nets-apart good) on metal
 
 -- ---- after a join
 

@@ -1,7 +1,6 @@
 -- What the tree's bytes tell.
 --     spots-begun, begun-long   before the first join of a net
 --     spots-entered      after a vertex is entered
---     spots-alike        the tree goes by its members
 --     spots-joined       a pin on the tree is no longer unjoined
 --     spot-goal          a byte tells an unjoined pin
 --     some-none, some-one   whether a pin is unjoined
@@ -12,12 +11,12 @@ use mathlib.Core.Bool.{Bool, true, false, _||_, or-true, cond}
 use native.Mathlib.Omega.{arith}
 use lib.ListN.{length, getD, set, length-set, replicate, length-replicate, getD-replicate}
 use lib.Dec.{eqb, eqb·suc-suc}
-use borrow.Author.Tests.{eqb-true, eqb-false, eq-eqb, ne-eqb}
+use borrow.Author.Tests.{eqb-true, eq-eqb, ne-eqb}
 use Rattle.job.specs.Lists.{any, All}
 use Rattle.job.specs.Grid.{Grid, vertices}
 use Rattle.rules.specs.Views.{member}
-use Rattle.rules.specs.Standings.{Standing, begun, without}
-use Rattle.rules.proofs.Members.{not-both, member-none, member-both, without-other}
+use Rattle.rules.specs.Standings.{begun, without}
+use Rattle.rules.proofs.Members.{not-both, member-both, without-other}
 use Rattle.tree.specs.Spots.{spotOf, Spots, putAll, begunSpots, someUnjoined}
 
 -- a store, read at any vertex
@@ -91,12 +90,6 @@ spots-entered g tree unjoined spots w on held v h =
     by true false c = refl
     by false true c = refl
     by false false c = refl
-
--- the tree goes by its members
-pub spots-alike : (g : Grid) (tree other unjoined spots : List ℕ) → ((v : ℕ) → member v tree ≡ member v other) → Spots g tree unjoined spots
-    → Spots g other unjoined spots
-unfolding Spots spotOf
-spots-alike g tree other unjoined spots same held v h = held v h ∙ ap (λ (b : Bool). cond b 1 (cond (member v unjoined) 2 0)) (same v)
 
 -- a pin on the tree is no longer unjoined
 pub spots-joined : (g : Grid) (tree unjoined spots : List ℕ) (end : ℕ) → member end tree ≡ true → Spots g tree unjoined spots

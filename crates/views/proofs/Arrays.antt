@@ -1,19 +1,13 @@
--- A net's boxes and pins, read back from the arrays that they are stored in.
---     boxes-in     boxes, from six numbers each
---     pins-in      pins, one number each
+-- A net's boxes, read back from the array that they are stored in, six numbers each: boxes-in.
 use Prim.Native.Nat.{ℕ, zero, suc, _+_, _*_, _≤_}
 use mathlib.Core.Path.{_≡_, refl, ap, _∙_}
 use mathlib.Core.List.{List, [], _∷_, _++_, flatMap}
 use native.Mathlib.Omega.{arith}
-use lib.ListN.{length, getD, take, drop}
-use lib.Seq.{sets, sets-eq, take-append-seam}
+use lib.ListN.{length, getD, drop}
+use lib.Seq.{sets, sets-eq}
 use Rattle.job.specs.Job.{Box}
 use Rattle.reader.specs.Loading.{boxNumbers}
 use Rattle.views.specs.Sight.{boxesIn}
-
--- pins, one number each
-pub pins-in : (ps found : List ℕ) → length ps ≤ length found → take (length ps) (sets found 0 ps) ≡ ps
-pins-in ps found room = rw (sets-eq ps found 0 (omega arith)) (take-append-seam ps (drop (0 + length ps) found))
 
 -- a number behind those of a box
 number-behind : (b : Box) (rest : List ℕ) (i : ℕ) → getD (boxNumbers b ++ rest) (i + 6) 0 ≡ getD rest i 0
