@@ -16,7 +16,17 @@ pub struct Routed {
 }
 
 pub fn route(board: &Board) -> Routed {
+    route_with(board, &mut Search::new(board))
+}
+
+/// How many places the searches for a job's joins settle.
+pub fn settled(board: &Board) -> u64 {
     let mut search = Search::new(board);
+    route_with(board, &mut search);
+    search.settled()
+}
+
+fn route_with(board: &Board, search: &mut Search) -> Routed {
     let mut records = Vec::new();
     let joined = join_nets(board, |net| {
         let Some(join) = search.cheapest(net) else {

@@ -1,6 +1,7 @@
 -- What callers lean on.
 --     heaped-none                   where no entry was touched there is an empty heap
 --     heaped-as, heaped-store       what is past the heap does not matter, so that the caller may store there
+--     heaped-least, taken-key       the item at the front has the least key, and the one that is taken has that key
 --     lowered-left, taken-left      no item gets into the heap but the one that is put in
 --     room-both, room-beside        different items that are not in the heap have room beside it, and so has one more
 use Prim.Native.Nat.{ℕ, _+_, _-_, _≤_, _<_}
@@ -13,8 +14,9 @@ use lib.ListN.{length, getD, set, length-set}
 use lib.Dec.{ltb}
 use lib.Seq.{getD-set-other}
 use borrow.Author.Tests.{lt-ltb, le-ltb}
-use Rattle.heap.specs.Heaps.{keyOf, slotOf, Open, In, itemAt, above, Seated, Heaped, Lowered, Taken}
+use Rattle.heap.specs.Heaps.{keyOf, slotOf, Open, In, itemAt, keyAt, above, Seated, Heaped, Lowered, Taken}
 use Rattle.heap.proofs.Words.{open-or-not}
+use Rattle.heap.proofs.Orders.{least-first}
 use Rattle.heap.proofs.Swaps.{seat-once, seat-in}
 use Rattle.heap.proofs.Pigeons.{Within, Apart, pigeons, pigeons-miss}
 
@@ -78,6 +80,19 @@ module _ {n size : ℕ} {work : List ℕ} (left : List ℕ) (h : Heaped n size w
 -- so the caller may store there
 pub heaped-store : {n size : ℕ} (j x : ℕ) {work : List ℕ} → n + size ≤ j → Heaped n size work → Heaped n size (set work j x)
 heaped-store j x {work} past h = heaped-as (set work j x) h (length-set work j x) (λ i l. getD-set-other work j i x 0 (omega arith))
+
+-- ---- the least key
+
+-- the item at the front has it
+pub heaped-least : {n size : ℕ} {work : List ℕ} → Heaped n size work → (c : ℕ) → c < n → In work n c → keyAt work n 0 ≤ keyOf (getD work c 0)
+heaped-least {n} {size} {work} h c l o =
+    rw (ap (λ x. keyOf (getD work x 0)) (h .seated .seats c l o)) at (least-first (h .order) (slotOf (getD work c 0)) (h .seated .within c l o))
+
+-- and so has the one that is taken
+pub taken-key : {n size item : ℕ} {found work : List ℕ} → Taken n size item found work → Heaped n size found → 0 < size
+    → keyAt found n 0 ≡ keyOf (getD found item 0)
+taken-key {n} {size} {item} {found} {work} t h some =
+    omega (arith, heaped-least h item (t .known) (t .was), t .least (itemAt found n 0) (h .seated .items 0 some) (seat-in (h .seated) some))
 
 -- ---- no other item gets in
 

@@ -1,13 +1,15 @@
 -- The item at the front taken out: w is the slice as found, v the slice with the item marked as settled.
 --     settled, marked, filled     that slice, and with the last item put in its place
---     front-..                    the item at the front has the least key, and of the rest nothing changes
+--     cleared                     the slice that is left, with the word of the last place cleared
+--     front-..                    the item at the front is marked, and of the rest nothing changes
 --     Out, taken-by               the item is out of the heap, and the others find their places
 --     one-..                      there was one item
 --     many-..                     there were more: the last goes to the front and may sink from there
---     settle-asked, last-asked, drop-asked, drop-taken, one-done     what the code asks and does, in its words
+--     settle-asked, last-asked, drop-asked, drop-taken, one-done, clear-asked     what the code asks and does, in its words
 use Prim.Native.Nat.{ℕ, _+_, _-_, _≤_, _<_}
 use mathlib.Core.Path.{_≡_, sym, ap, _∙_}
 use mathlib.Core.List.{List}
+use native.Mathlib.Nat.{le-refl}
 use native.Mathlib.Omega.{arith}
 use native.Mathlib.Decide.{ℕ-discrete}
 use lib.ListN.{length, getD, set, length-set}
@@ -15,10 +17,10 @@ use lib.Seq.{getD-set-same, getD-set-other}
 use Rattle.heap.specs.Heaps.{keyOf, slotOf, wordOf, In, itemAt, keyAt, above, Heaped, Taken}
 use Rattle.heap.specs.Sifts.{placed, Sifted, Dropped}
 use Rattle.heap.proofs.Words.{key-word, slot-word, placed-long, placed-other}
-use Rattle.heap.proofs.Orders.{least-first}
 use Rattle.heap.proofs.Swaps.{seat-once, seat-in}
 use Rattle.heap.proofs.Landing.{Around, around-seated, around-key, around-item-key, around-in, around-word-other}
 use Rattle.heap.proofs.Sifting.{moved-none}
+use Rattle.heap.proofs.Laws.{heaped-store, heaped-least}
 
 -- the item at the front, and the last
 abbrev firstOf : (n : ℕ) → (w : List ℕ) → ℕ
@@ -39,6 +41,10 @@ marked n w = settled w (firstOf n w)
 abbrev filled : (n size : ℕ) → (w : List ℕ) → List ℕ
 filled n size w = placed (marked n w) n 0 (lastOf n size w) (keyAt w n (size - 1))
 
+-- and in the end the word of the last place cleared
+abbrev pub cleared : (n size : ℕ) → (w : List ℕ) → List ℕ
+cleared n size w = set w (n + (size - 1)) 0
+
 module _ {n size : ℕ} {w : List ℕ} (h : Heaped n size w) (some : 0 < size) where
   -- the item at the front is known, and in the heap
   front-known : firstOf n w < n
@@ -46,11 +52,6 @@ module _ {n size : ℕ} {w : List ℕ} (h : Heaped n size w) (some : 0 < size) w
 
   front-in : In w n (firstOf n w)
   front-in = seat-in (h .seated) some
-
-  -- and its key is the least
-  front-least : (c : ℕ) → c < n → In w n c → keyAt w n 0 ≤ keyOf (getD w c 0)
-  front-least c l o =
-      rw (ap (λ x. keyOf (getD w x 0)) (h .seated .seats c l o)) at (least-first (h .order) (slotOf (getD w c 0)) (h .seated .within c l o))
 
   -- ---- the slice with it marked
 
@@ -107,28 +108,38 @@ record Out (n size item : ℕ) (w left : List ℕ) : Type 0 where
   pub long : length left ≡ length w
   pub keys : (c : ℕ) → c < n → keyOf (getD left c 0) ≡ keyOf (getD w c 0)
   pub gone : In left n item → ⊥
+  pub slot : slotOf (getD left item 0) ≡ 1048575
   pub stays : (c : ℕ) → c < n → (c ≡ item → ⊥) → In w n c → In left n c
   pub still : (c : ℕ) → c < n → (In w n c → ⊥) → getD left c 0 ≡ getD w c 0
   pub beyond : (j : ℕ) → n + (size - 1) ≤ j → getD left j 0 ≡ getD w j 0
 
--- the others find their places
+-- the others find their places, and the word past them is cleared
 taken-by : {n size : ℕ} {w left work : List ℕ} → Heaped n size w → 0 < size → Out n size (firstOf n w) w left → Sifted n (size - 1) left work
-    → Taken n size (firstOf n w) w work
+    → Taken n size (firstOf n w) w (cleared n size work)
 taken-by {n} {size} {w} {left} {work} h some o s =
     record {
-      heaped = s .heaped;
-      long = s .moved .long ∙ o .long;
+      heaped = heaped-store (n + (size - 1)) 0 (le-refl (n + (size - 1))) (s .heaped);
+      long = length-set work (n + (size - 1)) 0 ∙ long;
       known = front-known h some;
       was = front-in h some;
-      least = front-least h some;
-      gone = λ x. o .gone (rw (s .moved .still (firstOf n w) (front-known h some) (o .gone)) at x);
-      keys = λ c l. s .moved .keys c l ∙ o .keys c l;
-      stays = λ c l e x. s .moved .stays c l (o .stays c l e x);
+      least = heaped-least h;
+      gone = λ x. o .gone (rw (entry (firstOf n w) (front-known h some) ∙ s .moved .still (firstOf n w) (front-known h some) (o .gone)) at x);
+      slot = ap slotOf (entry (firstOf n w) (front-known h some) ∙ s .moved .still (firstOf n w) (front-known h some) (o .gone)) ∙ o .slot;
+      keys = λ c l. ap keyOf (entry c l) ∙ s .moved .keys c l ∙ o .keys c l;
+      stays = λ c l e x. rw (entry c l) (s .moved .stays c l (o .stays c l e x));
       still = λ c l x.
           let same = o .still c l x in
-          s .moved .still c l (λ y. x (rw same at y)) ∙ same;
-      beyond = λ j l. s .moved .beyond j l ∙ o .beyond j l;
+          entry c l ∙ s .moved .still c l (λ y. x (rw same at y)) ∙ same;
+      empty = getD-set-same work (n + (size - 1)) 0 0 (omega (arith, long, h .seated .room, h .seated .fits));
+      beyond = λ j l.
+          getD-set-other work (n + (size - 1)) j 0 0 (omega arith) ∙ s .moved .beyond j (omega arith) ∙ o .beyond j (omega arith);
     }
+  where
+    long : length work ≡ length w
+    long = s .moved .long ∙ o .long
+
+    entry : (c : ℕ) → c < n → getD (cleared n size work) c 0 ≡ getD work c 0
+    entry c l = getD-set-other work (n + (size - 1)) c 0 0 (omega arith)
 
 -- ---- one item
 
@@ -169,12 +180,13 @@ module _ {n size : ℕ} {w : List ℕ} (h : Heaped n size w) (some : 0 < size) (
         long = front-long h some;
         keys = λ c l. front-keys h some c;
         gone = front-out h some;
+        slot = front-slot h some;
         stays = λ c l e o. rw (front-other h some c e) o;
         still = λ c l x. front-other h some c (λ e. x (rw e (front-in h some)));
         beyond = λ j l. front-other h some j (omega (arith, front-known h some));
       }
 
-  pub one-taken : Taken n size (firstOf n w) w (marked n w)
+  pub one-taken : Taken n size (firstOf n w) w (cleared n size (marked n w))
   one-taken = taken-by h some one-out one-sifted
 
 -- ---- more than one
@@ -259,6 +271,7 @@ module _ {n size : ℕ} {w : List ℕ} (h : Heaped n size w) (more : 1 < size) w
         long = placed-long (marked n w) n 0 (lastOf n size w) (keyAt w n (size - 1)) ∙ front-long h some;
         keys = λ c l. keys c l (ℕ-discrete c (lastOf n size w));
         gone = λ o. front-out h some (rw (other (firstOf n w) (front-known h some) apart) at o);
+        slot = ap slotOf (other (firstOf n w) (front-known h some) apart) ∙ front-slot h some;
         stays = λ c l e o. stays c l e o (ℕ-discrete c (lastOf n size w));
         still = λ c l x. other c l (λ e. x (rw e last-in)) ∙ front-other h some c (λ e. x (rw e (front-in h some)));
         beyond = λ j l.
@@ -284,7 +297,7 @@ module _ {n size : ℕ} {w : List ℕ} (h : Heaped n size w) (more : 1 < size) w
       stays c l e o (no x) = rw (other c l x ∙ front-other h some c e) o
 
   pub many-taken : {work : List ℕ} → Sifted n (size - 1) (filled n size w) work
-      → Taken n size (firstOf n w) w work
+      → Taken n size (firstOf n w) w (cleared n size work)
   many-taken s = taken-by h some many-out s
 
 -- ---- as the code has it
@@ -303,13 +316,14 @@ module _ {n size item last key : ℕ} {w v : List ℕ} (h : Heaped n size w) (mo
   drop-asked = rw (last-is, key-was, slice-is) (many-dropped h more)
 
   -- what is then done
-  pub drop-taken : {work : List ℕ} → Sifted n (size - 1) (placed v n 0 last key) work → Taken n size item w work
+  pub drop-taken : {work : List ℕ} → Sifted n (size - 1) (placed v n 0 last key) work → Taken n size item w (cleared n size work)
   drop-taken {work} s =
       let told : Sifted n (size - 1) (filled n size w) work = rw (last-is, key-was, slice-is) at s in
       rw first-is (many-taken h more told)
 
 -- what is done with one item
-pub one-done : {n size item : ℕ} {w v : List ℕ} → Heaped n size w → 0 < size → size ≤ 1 → item ≡ firstOf n w → v ≡ settled w item → Taken n size item w v
+pub one-done : {n size item : ℕ} {w v : List ℕ} → Heaped n size w → 0 < size → size ≤ 1 → item ≡ firstOf n w → v ≡ settled w item
+    → Taken n size item w (cleared n size v)
 one-done {n} {size} {item} {w} {v} h some one first-is v-is = rw (v-is, first-is) (one-taken h some one)
 
 -- what marking asks
@@ -322,3 +336,8 @@ settle-asked {n} {size} {item} {w} h some is =
 pub last-asked : {n size last : ℕ} (item : ℕ) {w v : List ℕ} → Heaped n size w → 1 < size → last ≡ lastOf n size w → v ≡ settled w item → last < length v
 last-asked {n} {size} {last} item {w} {v} h more is v-is =
     rw (is, v-is, length-set w item (wordOf (keyOf (getD w item 0)) 1048575)) (omega (arith, last-known h more, h .seated .room))
+
+-- what clearing the last place asks
+pub clear-asked : {n size item : ℕ} {w : List ℕ} (work : List ℕ) → Heaped n size w → 0 < size → Taken n size item w (cleared n size work) → n + (size - 1) < length work
+clear-asked {n} {size} {item} {w} work h some t =
+    omega (arith, t .long, length-set work (n + (size - 1)) 0, h .seated .room, h .seated .fits)

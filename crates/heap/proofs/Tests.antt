@@ -1,21 +1,24 @@
 -- What the code's tests tell.
---     placed-from                      an item moved from a place, with its own key
---     one-is, one-small                a test as a number
---     climbs-front, climbs-test        whether the item above has a greater key
---     least-one, least-of              the place below with the least key, of one or of two
---     below-none, below-some, below-not      that place where its key is less
+--     one-is, one-small                      a test as a number
+--     placed-from                            an item moved from a place, with its own key
+--     climbs-front, climbs-test              whether the item above has a greater key
+--     below-none, below-some, below-not      the place below with the least key, where that is less
+--     keyed-asked                            what reading a key of places in a row asks
+--     lowest-..                              the one of them with the least key: of one place, of two rows that meet, of two places
+--     held-keyed, lowest-least               the places right below a place are such a row
 use Prim.Native.Nat.{ℕ, _+_, _*_, _≤_, _<_}
-use mathlib.Core.Path.{_≡_, refl, sym}
+use mathlib.Core.Path.{_≡_, refl, sym, _∙_}
 use mathlib.Core.Bool.{Bool, true, false, cond}
 use mathlib.Core.List.{List}
 use native.Mathlib.Nat.{le-refl}
 use native.Mathlib.Omega.{arith}
-use native.Mathlib.Decide.{ℕ-discrete, decLt}
+use native.Mathlib.Decide.{decLt}
+use lib.ListN.{length, getD}
 use lib.Dec.{ltb}
 use borrow.Author.Tests.{ltb-true, ltb-false, lt-ltb, le-ltb}
 use mir.Val.{boolByte}
-use Rattle.heap.specs.Heaps.{itemAt, keyAt, above}
-use Rattle.heap.specs.Sifts.{placed, Climbs, Least, Below}
+use Rattle.heap.specs.Heaps.{keyOf, itemAt, keyAt, above}
+use Rattle.heap.specs.Sifts.{placed, Held, Keyed, Lowest, Climbs, Least, Below}
 
 -- a test as a number
 pub one-is : (b : Bool) → boolByte b ≡ cond b 1 0
@@ -51,57 +54,9 @@ module _ (work : List ℕ) (n : ℕ) where
         no-key = λ x p. rw (sym e) (ltb-false key other x);
       }
 
-  module _ {size at : ℕ} (one : 2 * at + 1 < size) where
-    -- there is one place below
-    pub least-one : size ≤ 2 * at + 1 + 1 → Least n size at work (2 * at + 1)
-    least-one end =
-        record {
-          low = omega arith;
-          known = one;
-          child-of = omega arith;
-          least = λ i p h e. let same : i ≡ 2 * at + 1 = omega arith in rw same (le-refl (keyAt work n (2 * at + 1)));
-        }
-
-    module _ {left right : ℕ} (two : 2 * at + 1 + 1 < size) (l : left ≡ keyAt work n (2 * at + 1)) (r : right ≡ keyAt work n (2 * at + 1 + 1)) where
-      -- of two the right one
-      least-right : right < left → Least n size at work (2 * at + 1 + 1)
-      least-right less =
-          record {
-            low = omega arith;
-            known = two;
-            child-of = omega arith;
-            least = λ i p h e. by i e p (ℕ-discrete i (2 * at + 1));
-          }
-        where
-          by : (i : ℕ) → above i ≡ at → 0 < i → Dec (i ≡ 2 * at + 1) → keyAt work n (2 * at + 1 + 1) ≤ keyAt work n i
-          by i e p (yes x) = rw x (omega arith)
-          by i e p (no x) = let same : i ≡ 2 * at + 1 + 1 = omega arith in rw same (le-refl (keyAt work n (2 * at + 1 + 1)))
-
-      -- or the left one
-      least-left : left ≤ right → Least n size at work (2 * at + 1)
-      least-left less =
-          record {
-            low = omega arith;
-            known = one;
-            child-of = omega arith;
-            least = λ i p h e. by i e p (ℕ-discrete i (2 * at + 1));
-          }
-        where
-          by : (i : ℕ) → above i ≡ at → 0 < i → Dec (i ≡ 2 * at + 1) → keyAt work n (2 * at + 1) ≤ keyAt work n i
-          by i e p (yes x) = rw x (le-refl (keyAt work n (2 * at + 1)))
-          by i e p (no x) = let same : i ≡ 2 * at + 1 + 1 = omega arith in rw same (omega arith)
-
-      -- as the test tells
-      pub least-of : {step : ℕ} → step ≡ cond (ltb right left) 1 0 → Least n size at work (2 * at + 1 + step)
-      least-of {step} is = by (decLt right left)
-        where
-          by : Dec (right < left) → Least n size at work (2 * at + 1 + step)
-          by (yes h) = let one : step ≡ 1 = rw (lt-ltb right left h) at is in rw one (least-right h)
-          by (no h) = let none : 2 * at + 1 + step ≡ 2 * at + 1 = omega (arith, rw (le-ltb right left (omega arith)) at is) in rw none (least-left (omega arith))
-
   module _ {size at : ℕ} (key : ℕ) where
     -- there is no place below
-    pub below-none : size ≤ 2 * at + 1 → Below n size at key work size
+    pub below-none : size ≤ 4 * at + 1 → Below n size at key work size
     below-none end = record { some = λ h. absurd (omega arith); less = λ h. absurd (omega arith); none = λ h i p l e. absurd (omega arith) }
 
     -- its key is less
@@ -116,4 +71,80 @@ module _ (work : List ℕ) (n : ℕ) where
           some = λ x. absurd (omega arith);
           less = λ x. absurd (omega arith);
           none = λ x i p y f. omega (arith, l .least i p y f);
+        }
+
+-- ---- places in a row
+
+module _ {n : ℕ} {work : List ℕ} where
+  -- what reading a key asks
+  pub keyed-asked : {first end : ℕ} → Keyed n first end work → {i : ℕ} → first ≤ i → i < end
+      → (n ≤ 524288) × (i < n) × (n + i < length work) × (keyOf (getD work (n + i) 0) ≡ keyAt work n i)
+  keyed-asked k {i} l h = (k .few, omega (arith, k .fits), omega (arith, k .fits, k .room), k .agree i l h)
+
+  -- of one place
+  pub lowest-one : (first : ℕ) {end : ℕ} → end ≡ first + 1 → Lowest n first end work first
+  lowest-one first e =
+      record {
+        from = le-refl first;
+        until = omega arith;
+        least = λ i l h. let same : i ≡ first = omega arith in rw same (le-refl (keyAt work n first));
+      }
+
+  module _ {first middle end i j : ℕ} (a : Lowest n first middle work i) (b : Lowest n middle end work j) where
+    -- of two rows that meet, where the second has the lesser key
+    pub lowest-right : keyAt work n j ≤ keyAt work n i → Lowest n first end work j
+    lowest-right less =
+        record { from = omega (arith, a .from, a .until, b .from); until = b .until; least = λ p l h. by p l h (decLt p middle) }
+      where
+        by : (p : ℕ) → first ≤ p → p < end → Dec (p < middle) → keyAt work n j ≤ keyAt work n p
+        by p l h (yes x) = omega (arith, a .least p l x)
+        by p l h (no x) = b .least p (omega arith) h
+
+    -- or the first
+    pub lowest-left : keyAt work n i ≤ keyAt work n j → Lowest n first end work i
+    lowest-left less =
+        record { from = a .from; until = omega (arith, a .until, b .from, b .until); least = λ p l h. by p l h (decLt p middle) }
+      where
+        by : (p : ℕ) → first ≤ p → p < end → Dec (p < middle) → keyAt work n i ≤ keyAt work n p
+        by p l h (yes x) = a .least p l x
+        by p l h (no x) = omega (arith, b .least p (omega arith) h)
+
+  -- of two places, with its key
+  pub lowest-pair : (first second end : ℕ) {a b step key : ℕ} → second ≡ first + 1 → end ≡ first + 2 → a ≡ keyAt work n first → b ≡ keyAt work n second
+      → step ≡ cond (ltb b a) 1 0 → key ≡ cond (ltb b a) b a → (Lowest n first end work (first + step)) × (key ≡ keyAt work n (first + step))
+  lowest-pair first second end {a} {b} {step} {key} next stop x y is low = by (decLt b a)
+    where
+      one : Lowest n first second work first
+      one = lowest-one first next
+
+      other : Lowest n second end work second
+      other = lowest-one second (omega arith)
+
+      by : Dec (b < a) → (Lowest n first end work (first + step)) × (key ≡ keyAt work n (first + step))
+      by (yes h) =
+          let place : first + step ≡ second = omega (arith, rw (lt-ltb b a h) at is) in
+          rw place (lowest-right one other (omega arith), (rw (lt-ltb b a h) at low) ∙ y)
+      by (no h) =
+          let place : first + step ≡ first = omega (arith, rw (le-ltb b a (omega arith)) at is) in
+          rw place (lowest-left one other (omega arith), (rw (le-ltb b a (omega arith)) at low) ∙ x)
+
+  -- the places right below a place, as far as they are in the heap
+  module _ {size at end : ℕ} (in-heap : end ≤ size) where
+    pub held-keyed : Held n size at work → Keyed n (4 * at + 1) end work
+    held-keyed held =
+        record {
+          room = held .room;
+          few = held .few;
+          fits = omega (arith, held .fits);
+          agree = λ i l h. held .agree i (omega arith) (omega arith);
+        }
+
+    pub lowest-least : {child : ℕ} → end ≤ 4 * at + 1 + 4 → ((i : ℕ) → i < size → i < 4 * at + 1 + 4 → i < end) → Lowest n (4 * at + 1) end work child
+        → Least n size at work child
+    lowest-least few all low =
+        record {
+          low = omega (arith, low .from);
+          known = omega (arith, low .until);
+          child-of = omega (arith, low .from, low .until);
+          least = λ i p h e. low .least i (omega arith) (all i h (omega arith));
         }

@@ -4,7 +4,7 @@
 -- compared in the heap's words alone. What the items are is not said here.
 --     keyOf, slotOf, wordOf     the key and the slot of an entry, and an entry of the two
 --     itemAt, keyAt             the item at a place, and its key
---     above                     the place above a place
+--     above                     the place above a place: four places are below each
 --     Open, In                  an entry's item is in the heap
 --     Seated                    each item of the heap knows its place
 --     Heaped                    and none has a lesser key than the one above it
@@ -48,9 +48,9 @@ itemAt work n i = slotOf (getD work (n + i) 0)
 abbrev pub keyAt : (work : List ℕ) → (n i : ℕ) → ℕ
 keyAt work n i = keyOf (getD work (itemAt work n i) 0)
 
--- the place above a place
+-- the place above a place: right below place i are places 4 * i + 1 to 4 * i + 4
 abbrev pub above : ℕ → ℕ
-above i = (i - 1) / 2
+above i = (i - 1) / 4
 
 -- ---- the heap
 
@@ -87,7 +87,8 @@ pub record Lowered (n size item distance : ℕ) (found work : List ℕ) (now : �
   pub still : (c : ℕ) → c < n → (c ≡ item → ⊥) → (In found n c → ⊥) → getD work c 0 ≡ getD found c 0
   pub beyond : (j : ℕ) → n + now ≤ j → getD work j 0 ≡ getD found j 0
 
--- An item of the heap with the least key is taken out. Every item keeps its key, and the others are in the heap as before.
+-- An item of the heap with the least key is taken out. Every item keeps its key, and the others are in the heap as before. The word of the
+-- place that is no longer in the heap is left zero.
 pub record Taken (n size item : ℕ) (found work : List ℕ) : Type 0 where
   pub heaped : Heaped n (size - 1) work
   pub long : length work ≡ length found
@@ -95,7 +96,9 @@ pub record Taken (n size item : ℕ) (found work : List ℕ) : Type 0 where
   pub was : In found n item
   pub least : (c : ℕ) → c < n → In found n c → keyOf (getD found item 0) ≤ keyOf (getD found c 0)
   pub gone : In work n item → ⊥
+  pub slot : slotOf (getD work item 0) ≡ 1048575
   pub keys : (c : ℕ) → c < n → keyOf (getD work c 0) ≡ keyOf (getD found c 0)
   pub stays : (c : ℕ) → c < n → (c ≡ item → ⊥) → In found n c → In work n c
   pub still : (c : ℕ) → c < n → (In found n c → ⊥) → getD work c 0 ≡ getD found c 0
-  pub beyond : (j : ℕ) → n + (size - 1) ≤ j → getD work j 0 ≡ getD found j 0
+  pub empty : getD work (n + (size - 1)) 0 ≡ 0
+  pub beyond : (j : ℕ) → n + size ≤ j → getD work j 0 ≡ getD found j 0

@@ -4,6 +4,7 @@
 --     Rising, Sinking              the order holds everywhere but at a place, or but right below it
 --     Lifted, Dropped              what sift_up and sift_down ask
 --     Sifted                       what both do
+--     Keyed, Lowest                places in a row, and the one of them with the least key
 --     Climbs, Least, Below         what the code's tests tell
 use Prim.Native.Nat.{ℕ, _+_, _≤_, _<_}
 use mathlib.Core.Path.{_≡_}
@@ -64,6 +65,23 @@ pub record Held (n size at : ℕ) (work : List ℕ) : Type 0 where
   pub known : at < size
   pub items : (i : ℕ) → i < size → (i ≡ at → ⊥) → itemAt work n i < n
   pub agree : (i : ℕ) → i < size → (i ≡ at → ⊥) → keyOf (getD work (n + i) 0) ≡ keyAt work n i
+
+-- ---- places in a row, from first to right before end
+
+-- they have the keys of their items
+pub record Keyed (n first end : ℕ) (work : List ℕ) : Type 0 where
+  pub room : n + n ≤ length work
+  pub few : n ≤ 524288
+  pub fits : end ≤ n
+  pub agree : (i : ℕ) → first ≤ i → i < end → keyOf (getD work (n + i) 0) ≡ keyAt work n i
+
+-- the one with the least key
+pub record Lowest (n first end : ℕ) (work : List ℕ) (place : ℕ) : Type 0 where
+  pub from : first ≤ place
+  pub until : place < end
+  pub least : (i : ℕ) → first ≤ i → i < end → keyAt work n place ≤ keyAt work n i
+
+-- ---- what the code's tests tell
 
 -- whether the item above has a greater key
 pub record Climbs (n at key : ℕ) (work : List ℕ) (up : Bool) : Type 0 where

@@ -35,16 +35,18 @@ pub fn lower(work: &mut [u64], n: usize, size: usize, item: usize, distance: u64
     size
 }
 
-// Takes out an item with the least distance, and answers it. Its entry keeps its distance.
+// Takes out an item with the least distance, and answers it. Its entry keeps its distance, and the last place's word becomes zero.
 pub fn take_least(work: &mut [u64], n: usize, size: usize) -> usize
     requires { ⌜ (Heaped n size (now work)) × (0 < size) ⌝ }
     ensures { λ r. ⌜ Taken n size r (now (work .entry)) (now (work .exit)) ⌝ }
 {
     let item = item_at(work, n, 0);
-    let last = item_at(work, n, size - 1);
+    let rest = size - 1;
+    let last = item_at(work, n, rest);
     settle(work, item);
-    if 1 < size {
-        sift_down(work, n, size - 1, 0, last, key_of(work, last));
+    if 0 < rest {
+        sift_down(work, n, rest, 0, last, key_of(work, last));
     }
+    work[n + rest] = 0;
     item
 }

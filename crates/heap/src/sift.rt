@@ -3,7 +3,8 @@
 ghost use mathlib.Core.Path.{_≡_};
 ghost use mathlib.Core.Bool.{cond};
 ghost use Prim.Native.Nat.{_+_, _*_, _<_};
-ghost use Rattle.heap.specs.Sifts.{placed, Lifted, Dropped, Held, Sifted, Climbs, Least, Below};
+ghost use lib.Dec.{ltb};
+ghost use Rattle.heap.specs.Sifts.{placed, Lifted, Dropped, Held, Sifted, Keyed, Lowest, Climbs, Least, Below};
 use crate::cells::key_at;
 use crate::cells::put;
 use crate::cells::shift;
@@ -16,7 +17,7 @@ fn climbs(work: &[u64], n: usize, size: usize, at: usize, key: u64) -> bool
     if at == 0 {
         return false;
     }
-    key < key_at(work, n, (at - 1) / 2)
+    key < key_at(work, n, (at - 1) / 4)
 }
 
 // Puts an item at a place of a heap of `size`, or higher.
@@ -26,7 +27,7 @@ pub fn sift_up(work: &mut [u64], n: usize, size: usize, from: usize, item: usize
 {
     let mut at = from;
     while climbs(work, n, size, at, key) {
-        let up = (at - 1) / 2;
+        let up = (at - 1) / 4;
         shift(work, n, up, at);
         at = up;
     }
@@ -40,25 +41,59 @@ fn one_if(test: bool) -> usize
     test as usize
 }
 
-// Below a place that has a place below it, the place with the lesser key.
-fn lesser_child(work: &[u64], n: usize, size: usize, at: usize) -> usize
-    requires { ⌜ (Held n size at (now work)) × (2 * at + 1 < size) ⌝ }
-    ensures { λ r. ⌜ Least n size at (now (work .entry)) r ⌝ }
+// The lesser of two keys.
+fn lesser(a: u64, b: u64) -> u64
+    ensures { λ r. ⌜ r ≡ cond (ltb b a) b a ⌝ }
 {
-    let left = 2 * at + 1;
-    let right = left + 1;
-    if size <= right {
-        return left;
-    }
-    left + one_if(key_at(work, n, right) < key_at(work, n, left))
+    if b < a { b } else { a }
 }
 
-// Below a place the one with the lesser key where that is less than a key, else the heap's size.
+// Of four places in a row the one with the least key: the lesser of each pair, then of the two. Each key is read once, with no branch.
+fn least_of_four(work: &[u64], n: usize, first: usize) -> usize
+    requires { ⌜ Keyed n first (first + 4) (now work) ⌝ }
+    ensures { λ r. ⌜ Lowest n first (first + 4) (now (work .entry)) r ⌝ }
+{
+    let a = key_at(work, n, first);
+    let b = key_at(work, n, first + 1);
+    let c = key_at(work, n, first + 2);
+    let d = key_at(work, n, first + 3);
+    let i = first + one_if(b < a);
+    let j = first + 2 + one_if(d < c);
+    if lesser(c, d) < lesser(a, b) { j } else { i }
+}
+
+// Of the places from one to the heap's end the one with the least key.
+fn least_of_few(work: &[u64], n: usize, first: usize, size: usize) -> usize
+    requires { ⌜ (Keyed n first size (now work)) × (first < size) ⌝ }
+    ensures { λ r. ⌜ Lowest n first size (now (work .entry)) r ⌝ }
+{
+    let mut least = first;
+    for place in first + 1..size {
+        if key_at(work, n, place) < key_at(work, n, least) {
+            least = place;
+        }
+    }
+    least
+}
+
+// Below a place that has a place below it, the place with the least key.
+fn lesser_child(work: &[u64], n: usize, size: usize, at: usize) -> usize
+    requires { ⌜ (Held n size at (now work)) × (4 * at + 1 < size) ⌝ }
+    ensures { λ r. ⌜ Least n size at (now (work .entry)) r ⌝ }
+{
+    let first = 4 * at + 1;
+    if size < first + 4 {
+        return least_of_few(work, n, first, size);
+    }
+    least_of_four(work, n, first)
+}
+
+// Below a place the one with the least key where that is less than a key, else the heap's size.
 fn below(work: &[u64], n: usize, size: usize, at: usize, key: u64) -> usize
     requires { ⌜ Held n size at (now work) ⌝ }
     ensures { λ r. ⌜ Below n size at key (now (work .entry)) r ⌝ }
 {
-    if size <= 2 * at + 1 {
+    if size <= 4 * at + 1 {
         return size;
     }
     let child = lesser_child(work, n, size, at);

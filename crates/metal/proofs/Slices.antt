@@ -1,7 +1,7 @@
 -- A slice past its need, and its need made zero.
 --     beyond-refl, beyond-trans       nothing done, and one thing after another, leave it as found
 --     beyond-store                    so does a store in the need
---     beyond-at                       an entry past the need
+--     beyond-by, beyond-at            the entries past the need
 --     zeroed-bare, zeroed-beyond      made zero, the need is zero, and the rest is as found
 --     zeroed-only                     where the need is zero and the rest as found, the slice is the one that was found, made zero
 --     zeroed-kept                     made zero, it does not matter what the need held
@@ -27,6 +27,16 @@ beyond-trans h k = record { size = h .size ∙ k .size; rest = h .rest ∙ k .re
 -- a store in the need leaves the rest as found
 pub beyond-store : (n v x : ℕ) (xs : List ℕ) → v < n → Beyond n (set xs v x) xs
 beyond-store n v x xs h = record { size = length-set xs v x; rest = drop-set-lt n xs v x h }
+
+-- where each entry past the need is as found, the rest is
+pub beyond-by : {n : ℕ} {held found : List ℕ} → length held ≡ length found → ((j : ℕ) → n ≤ j → getD held j 0 ≡ getD found j 0) → Beyond n held found
+beyond-by {n} {held} {found} long same =
+    record {
+      size = long;
+      rest =
+          ext-getD 0 (drop n held) (drop n found) (length-drop n held ∙ ap (λ (x : ℕ). x - n) long ∙ sym (length-drop n found))
+          (λ i h. getD-drop n held i 0 ∙ same (n + i) (omega arith) ∙ sym (getD-drop n found i 0));
+    }
 
 -- an entry past the need is as found
 pub beyond-at : {n : ℕ} {held found : List ℕ} (v : ℕ) → Beyond n held found → n ≤ v → getD held v 0 ≡ getD found v 0

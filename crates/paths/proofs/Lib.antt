@@ -1,4 +1,5 @@
 pub mod Costs
+pub mod Steps
 pub mod Routes
 pub mod Reach
 pub mod Counts

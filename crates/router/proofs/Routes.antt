@@ -9,7 +9,7 @@ use mathlib.Core.List.{List, [], _∷_, _++_, append-nil}
 use mathlib.Core.Bool.{cond}
 use native.Mathlib.Decide.{decLt}
 use native.Mathlib.Omega.{arith}
-use native.Mathlib.Nat.{mul-le-mul}
+use native.Mathlib.Nat.{add-mul}
 use mir.Syntax.{w8}
 use mir.Val.{Fits}
 use lib.ListN.{length, getD, drop, replicate}
@@ -33,7 +33,8 @@ use Rattle.metal.proofs.Slices.{zeroed-bare, zeroed-beyond}
 use Rattle.metal.proofs.Finished.{length-map}
 use Rattle.walker.specs.Structs.{PlanHeld}
 use Rattle.replay.specs.Structs.{replayedMap}
-use Rattle.search.specs.Tables.{Searched}
+use Rattle.front.specs.Fronts.{Searched}
+use Rattle.front.specs.Charts.{Blank}
 use Rattle.routing.specs.Plans.{planBits}
 use Rattle.router.specs.Room.{workNeed, readWithRoom}
 use Rattle.router.specs.Routing.{refusedRouting, totalResult, routingLeaves, routingOf}
@@ -47,19 +48,23 @@ use Rattle.router.proofs.Ends.{routes-short, routes-whole}
 pub route-asked : {bytes marks : List ℕ} {held : Held} (h : JobHeld bytes marks held) (map work : List ℕ) {workNow : List ℕ}
     → Roomy bytes (h .job) map work → workNow ≡ zeroed (held .work) work
     → PlanHeld bytes (held .tech) marks map (held .nets) (held .from) × Searched (held .tech) (held .largest)
-    × (places (techBy (held .tech)) ≤ length workNow) × Bare (places (techBy (held .tech))) workNow
+    × Blank (techBy (held .tech)) workNow
 unfolding Bare places techOf workNeed
 route-asked {bytes} {marks} {held} h map work roomy zeros =
     let j = h .job in
     let longest = largestMinLength (j .lines) + 1 in
-    let half : vertices (j .grid) * 2 * longest ≤ vertices (j .grid) * 4 * longest = mul-le-mul (omega arith) (omega arith) in
-    let few : places (techBy (held .tech)) ≤ held .work = rw (h .layers, h .work) half in
+    let both : vertices (j .grid) * 2 * longest + vertices (j .grid) * 2 * longest ≡ vertices (j .grid) * 4 * longest =
+    let two : vertices (j .grid) * 2 + vertices (j .grid) * 2 ≡ vertices (j .grid) * 4 = omega arith in
+    sym (add-mul (vertices (j .grid) * 2) (vertices (j .grid) * 2) longest) ∙ ap (λ (x : ℕ). x * longest) two in
+    let need : places (techBy (held .tech)) + places (techBy (held .tech)) ≡ held .work = rw (h .layers, h .work) both in
     let room : held .work ≤ length work = omega (arith, h .work, roomy .need) in
     rw zeros (
       plan-asked h (roomy .vertices),
       record { fits = h .fits; is = h .largest ∙ sym (ap (λ (t : Tech). largestMinLength (t .lines)) (h .layers)) },
-      omega (arith, few, room, zeroed-beyond {xs = work} room .size),
-      λ c below. zeroed-bare (held .work) work c (omega (arith, few, below)),
+      record {
+        room = omega (arith, need, room, zeroed-beyond {xs = work} room .size);
+        bare = λ c below. zeroed-bare (held .work) work c (omega (arith, need, below));
+      },
     )
 
 -- ---- the test of the plan slice

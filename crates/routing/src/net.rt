@@ -7,26 +7,30 @@ ghost use Rattle.job.specs.Job.{Job};
 ghost use Rattle.job.specs.Structs.{gridOf};
 ghost use Rattle.rules.specs.Seen.{viewBy};
 ghost use Rattle.rules.specs.Standings.{Standing};
-ghost use Rattle.rules.specs.Joins.{places};
 ghost use Rattle.rules.specs.Routings.{routeNet};
 ghost use Rattle.rules.specs.Structs.{techBy};
-ghost use Rattle.metal.specs.Codes.{Bare};
 ghost use Rattle.tree.specs.Spots.{Pins, begunSpots};
 ghost use Rattle.walker.specs.Structs.{totalsOf, Bounded};
-ghost use Rattle.search.specs.Tables.{Searched};
+ghost use Rattle.tables.specs.Moves.{Prepared};
+ghost use Rattle.front.specs.Fronts.{Searched};
+ghost use Rattle.front.specs.Charts.{Blank};
 ghost use Rattle.routing.specs.Structs.{NetHere, IsRouted};
 use crate::routed::Routed;
 use rules::price::Tech;
 use rules::totals::Totals;
 use search::join::Joined;
-use search::join::next_join;
+use search::next::next_join;
 use tree::begin_tree;
 use tree::some_unjoined;
 
 // Joins until every pin is joined, or a record that says none.
 pub fn route_records(
     tech: Tech,
+    rates: &[usize; 40],
+    ground: &[u8; 16384],
     seen: &[u8; 16384],
+    lows: &[u8; 16384],
+    highs: &[u8; 16384],
     spots: &mut [u8; 16384],
     map: &mut [u16],
     largest: usize,
@@ -38,8 +42,9 @@ pub fn route_records(
     from: usize,
     before: Totals,
 ) -> Routed
-    requires { ⌜ (Searched tech largest) × (places (techBy tech) ≤ length (now work)) × (Bare (places (techBy tech)) (now work))
+    requires { ⌜ (Searched tech largest) × (Blank (techBy tech) (now work))
         × (vertices (gridOf (tech .grid)) ≤ length (now map)) × (Pins (now pins) count) × (net < 256) × (Bounded (16 * net) before from) ⌝ }
+    requires { ⌜ Prepared (techBy tech) (viewBy (gridOf (tech .grid)) (now seen)) (now rates) (now ground) (now lows) (now highs) ⌝ }
     ensures answer { λ r. ⌜ ((j : Job) (k : ℕ) (s : Standing)
         → NetHere j k s tech (viewBy (gridOf (tech .grid)) (now (seen .entry))) net (take count (now (pins .entry)))
         (record { spots = now (spots .entry); codes = now (map .entry) })
@@ -57,7 +62,21 @@ pub fn route_records(
                 bits,
             };
         }
-        let joined = next_join(tech, seen, spots, map, largest, work, plan, net, bits);
+        let joined = next_join(
+            tech,
+            rates,
+            ground,
+            seen,
+            lows,
+            highs,
+            spots,
+            map,
+            largest,
+            work,
+            plan,
+            net,
+            bits,
+        );
         match joined {
             Joined::None => {
                 return Routed {
@@ -81,7 +100,11 @@ pub fn route_records(
 // A net's tree starts as its first pin.
 pub fn route_net(
     tech: Tech,
+    rates: &[usize; 40],
+    ground: &[u8; 16384],
     seen: &[u8; 16384],
+    lows: &[u8; 16384],
+    highs: &[u8; 16384],
     map: &mut [u16],
     largest: usize,
     work: &mut [u64],
@@ -92,8 +115,9 @@ pub fn route_net(
     from: usize,
     before: Totals,
 ) -> Routed
-    requires { ⌜ (Searched tech largest) × (places (techBy tech) ≤ length (now work)) × (Bare (places (techBy tech)) (now work))
+    requires { ⌜ (Searched tech largest) × (Blank (techBy tech) (now work))
         × (vertices (gridOf (tech .grid)) ≤ length (now map)) × (Pins (now pins) count) × (net < 256) × (Bounded (16 * net) before from) ⌝ }
+    requires { ⌜ Prepared (techBy tech) (viewBy (gridOf (tech .grid)) (now seen)) (now rates) (now ground) (now lows) (now highs) ⌝ }
     ensures answer { λ r. ⌜ ((j : Job) (k : ℕ) (s : Standing)
         → NetHere j k s tech (viewBy (gridOf (tech .grid)) (now (seen .entry))) net (take count (now (pins .entry)))
         (record { spots = begunSpots (take count (now (pins .entry))) (replicate 16384 0); codes = now (map .entry) })
@@ -105,7 +129,11 @@ pub fn route_net(
     begin_tree(&mut spots, pins, count);
     route_records(
         tech,
+        rates,
+        ground,
         seen,
+        lows,
+        highs,
         &mut spots,
         map,
         largest,

@@ -1,21 +1,21 @@
 // Routing net by net.
 ghost use mathlib.Core.Path.{_≡_};
-ghost use Prim.Native.Nat.{_≤_};
-ghost use lib.ListN.{length};
 ghost use Rattle.job.specs.Job.{Job};
 ghost use Rattle.job.specs.Reading.{good, readJob};
-ghost use Rattle.rules.specs.Joins.{places};
 ghost use Rattle.rules.specs.Routings.{routing};
 ghost use Rattle.rules.specs.Structs.{techBy};
-ghost use Rattle.metal.specs.Codes.{Bare};
 ghost use Rattle.walker.specs.Structs.{Bounded, NetsHeld};
-ghost use Rattle.search.specs.Tables.{Searched};
+ghost use Rattle.front.specs.Fronts.{Searched};
+ghost use Rattle.front.specs.Charts.{Blank};
 ghost use Rattle.routing.specs.Structs.{IsRouted};
 use crate::net::route_net;
 use crate::routed::Routed;
 use reader::load::load_net;
 use rules::price::Tech;
 use rules::totals::no_totals;
+use runs::fill::fill_runs;
+use tables::ground::fill_ground;
+use tables::rates::fill_rates;
 use views::sight::see_net;
 
 // All nets, in job order.
@@ -30,8 +30,7 @@ pub fn route_nets(
     nets: usize,
     from: usize,
 ) -> Routed
-    requires { ⌜ (NetsHeld (now s) tech (now marks) (now map) nets from) × (Searched tech largest) × (places (techBy tech) ≤ length (now work))
-        × (Bare (places (techBy tech)) (now work)) ⌝ }
+    requires { ⌜ (NetsHeld (now s) tech (now marks) (now map) nets from) × (Searched tech largest) × (Blank (techBy tech) (now work)) ⌝ }
     ensures answer { λ r. ⌜ ((j : Job) → readJob (now (s .entry)) ≡ good j
         → IsRouted j (routing j) 0 r (now (plan .entry)) (now (plan .exit)) (now (map .entry)) (now (map .exit))) ⌝ }
     ensures fits { λ r. ⌜ Bounded 4112 (r .totals) (r .bits) ⌝ }
@@ -45,6 +44,12 @@ pub fn route_nets(
     let mut totals = no_totals();
     let mut net: u16 = 0;
     let mut left = nets;
+    let mut rates: [usize; 40] = [0; 40];
+    let mut ground = [0u8; 16384];
+    let mut lows = [0u8; 16384];
+    let mut highs = [0u8; 16384];
+    fill_rates(&mut rates, tech);
+    fill_ground(&mut ground, tech.grid);
     while 0 < left {
         let loaded = load_net(s, tech.grid, place, &mut pins, &mut boxes);
         net += 1;
@@ -59,9 +64,14 @@ pub fn route_nets(
             loaded.boxes,
             net,
         );
+        fill_runs(&mut lows, &mut highs, tech.grid, &seen);
         let routed = route_net(
             tech,
+            &rates,
+            &ground,
             &seen,
+            &lows,
+            &highs,
             map,
             largest,
             work,

@@ -7,13 +7,12 @@ ghost use Rattle.bits.specs.Bits.{putBits};
 ghost use Rattle.job.specs.Grid.{vertices};
 ghost use Rattle.job.specs.Job.{Job};
 ghost use Rattle.job.specs.Reading.{good, readJob};
-ghost use Rattle.rules.specs.Joins.{places};
 ghost use Rattle.rules.specs.Routings.{routing};
 ghost use Rattle.rules.specs.Maps.{mapOf};
 ghost use Rattle.rules.specs.Structs.{techBy};
-ghost use Rattle.metal.specs.Codes.{Bare};
 ghost use Rattle.walker.specs.Structs.{totalsOf, PlanHeld};
-ghost use Rattle.search.specs.Tables.{Searched};
+ghost use Rattle.front.specs.Fronts.{Searched};
+ghost use Rattle.front.specs.Charts.{Blank};
 ghost use Rattle.routing.specs.Plans.{planBits};
 use crate::nets::route_nets;
 use crate::routed::Routed;
@@ -34,8 +33,7 @@ pub fn route_plan(
     nets: usize,
     from: usize,
 ) -> Routed
-    requires { ⌜ (PlanHeld (now s) tech (now marks) (now map) nets from) × (Searched tech largest) × (places (techBy tech) ≤ length (now work))
-        × (Bare (places (techBy tech)) (now work)) ⌝ }
+    requires { ⌜ (PlanHeld (now s) tech (now marks) (now map) nets from) × (Searched tech largest) × (Blank (techBy tech) (now work)) ⌝ }
     ensures answer { λ r. ⌜ ((j : Job) → readJob (now (s .entry)) ≡ good j → (totalsOf (r .totals) ≡ routing j .totals) × (r .bits ≡ length (planBits j))) ⌝ }
     ensures fits { λ r. ⌜ r .bits ≤ 2 ^ 23 * 4112 ⌝ }
     ensures map { λ _. ⌜ ((j : Job) → readJob (now (s .entry)) ≡ good j

@@ -1,13 +1,16 @@
 -- The vertex that a move enters.
 --     OneHigh, low-enters, high-enters         a step: one vertex is the next high of the other
+--     enters-low, enters-high                  the other way
 --     OneUp, down-enters, up-enters            a via: one vertex is above the other
+--     enters-down, enters-up                   the other way
 --     entered-below                            a vertex that is entered is of the grid
+--     entered-back                             some move enters the vertex that was left
 use Prim.Native.Nat.{ℕ, zero, suc, _+_, _-_, _*_, _<_}
 use mathlib.Core.Path.{_≡_, refl, sym, ap, _∙_, subst, subst₂}
 use mathlib.Core.Bool.{Bool, true, false, cond}
 use native.Mathlib.Nat.{not-suc-le-zero}
 use native.Mathlib.Omega.{arith}
-use borrow.Author.Tests.{ltb-true}
+use borrow.Author.Tests.{ltb-true, lt-ltb}
 use Rattle.job.specs.Grid.{Grid, Vertex, vertices, vertexNumber, stepsColumn, nextHigh, strideOf}
 use Rattle.job.proofs.Grids.{Below, below-number, number-next, next-layer}
 use Rattle.rules.specs.Tracks.{layerOf, rowOf, columnOf, vertexBy, placeOn, lengthOn, trackPlace, trackLength, outside, at, ifThere, entered}
@@ -136,6 +139,19 @@ low-enters g {v} {w} h e =
     let before : vertexNumber g y ≡ w = omega (arith, number-next g y, this, stride, number) in
     subst₂ (OneHigh g) before this (one-high g y (low-below g x b) (subst (Below g) (sym high) b))
 
+-- from the lower of two to the upper
+enters-high : (g : Grid) {v w : ℕ} → OneHigh g v w → entered g v 1 ≡ at w
+unfolding entered ifThere
+enters-high g {v} {w} o = rw (lt-ltb (suc (trackPlace g v)) (trackLength g v) (omega (arith, o .place, o .room))) (ap at (sym (o .number)))
+
+-- from the upper of two to the lower
+enters-low : (g : Grid) {v w : ℕ} → OneHigh g v w → entered g w 0 ≡ at v
+unfolding entered ifThere
+enters-low g {v} {w} o =
+    let stride = ap (strideOf g) (o .layer) in
+    let number : w - strideOf g (layerOf g w) ≡ v = omega (arith, o .number, stride) in
+    rw (lt-ltb 0 (trackPlace g w) (omega (arith, o .place))) (ap at number)
+
 -- ---- a via
 
 -- w is the vertex above v
@@ -197,6 +213,18 @@ down-enters g {v} {w} h e = by (layerOf g v) refl
         let before : vertexNumber g (record { layer = l; row = rowOf g v; column = columnOf g v }) ≡ w = omega (arith, up .number, this, number) in
         subst₂ (OneUp g) before this up
 
+-- from the lower of two to the upper
+enters-up : (g : Grid) {v w : ℕ} → OneUp g v w → entered g v 3 ≡ at w
+unfolding entered ifThere
+enters-up g {v} {w} o = rw (lt-ltb (suc (layerOf g v)) (g .layers) (omega (arith, o .layer, o .room))) (ap at (sym (o .number)))
+
+-- from the upper of two to the lower
+enters-down : (g : Grid) {v w : ℕ} → OneUp g v w → entered g w 2 ≡ at v
+unfolding entered ifThere
+enters-down g {v} {w} o =
+    let number : w - g .rows * g .columns ≡ v = omega (arith, o .number) in
+    rw (lt-ltb 0 (layerOf g w) (omega (arith, o .layer))) (ap at number)
+
 -- ---- any move
 
 -- a vertex that is entered is of the grid
@@ -210,3 +238,15 @@ entered-below g {w = w} (suc (suc (suc (suc m)))) h e = no-move e
   where
     no-move : outside ≡ at w → w < vertices g
     no-move q = let z : _≡_ {A = ℕ} 0 1 = cc in omega arith
+
+-- low and high are each other's way back, and so are down and up
+pub entered-back : (g : Grid) {v w : ℕ} (m : ℕ) → v < vertices g → entered g v m ≡ at w → (k : ℕ) × (k < 4) × (entered g w k ≡ at v)
+unfolding entered
+entered-back g zero h e = (1, omega arith, enters-high g (low-enters g h e))
+entered-back g (suc zero) h e = (0, omega arith, enters-low g (high-enters g h e))
+entered-back g (suc (suc zero)) h e = (3, omega arith, enters-up g (down-enters g h e))
+entered-back g (suc (suc (suc zero))) h e = (2, omega arith, enters-down g (up-enters g h e))
+entered-back g {v} {w} (suc (suc (suc (suc m)))) h e = no-move e
+  where
+    no-move : outside ≡ at w → (k : ℕ) × (k < 4) × (entered g w k ≡ at v)
+    no-move q = let z : _≡_ {A = ℕ} 0 1 = cc in absurd (omega arith)

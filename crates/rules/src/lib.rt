@@ -1,5 +1,4 @@
 // The rules of moves and prices.
-pub mod guide;
 pub mod overhead;
 pub mod price;
 pub mod seen;

@@ -1,11 +1,9 @@
 -- Clear runs by one neighbour, and at most so many of a run.
---     enters-outside, enters-at          the neighbour, from the code's form
---     run-within                         a run is at most as long as was asked
 --     run-lesser                         a shorter run is the lesser of what was asked and a longer run
 --     run-outside, run-unclear, run-on   a run by the neighbour: none, not clear, clear
---     beyond-outside, -unclear, -on      the same of the count that a byte holds
+--     beyond-outside, -unclear, -on      the same of the count of a vertex
 use Prim.Native.Nat.{ℕ, zero, suc, _+_, _≤_}
-use mathlib.Core.Path.{_≡_, refl, sym, ap, _∙_}
+use mathlib.Core.Path.{_≡_, refl, sym}
 use mathlib.Core.Bool.{Bool, true, false}
 use native.Mathlib.Nat.{not-suc-le-zero, le-of-suc-le-suc}
 use native.Mathlib.Omega.{arith}
@@ -15,24 +13,7 @@ use Rattle.rules.specs.Tracks.{Entered, outside, at, entered}
 use Rattle.rules.specs.Views.{View}
 use Rattle.rules.specs.Segments.{Direction}
 use Rattle.rules.specs.Overheads.{clear, toward, onFrom, clearRun}
-use Rattle.rules.specs.Structs.{enteredOf}
-use Rattle.rules.specs.declared.track.Entered.{Entered as EnteredEnum}
-use Rattle.rules.specs.declared.track.Entered.the-variants.{Outside, At}
-use Rattle.rules.proofs.Fitting.{entered-outside, entered-at}
 use Rattle.runs.specs.Runs.{lesser, runBeyond}
-
--- ---- the neighbour, from the code's form
-
-module _ (g : Grid) (v : ℕ) (d : Direction) {side : ℕ} {x : EnteredEnum} (s : side ≡ toward d) (e : x ≡ enteredOf (entered g v side)) where
-  -- none
-  pub enters-outside : x ≡ Outside → entered g v (toward d) ≡ outside
-  enters-outside o = ap (entered g v) (sym s) ∙ entered-outside _ (sym e ∙ o)
-
-  -- a vertex
-  pub enters-at : {w : ℕ} → x ≡ At w → entered g v (toward d) ≡ at w
-  enters-at o = ap (entered g v) (sym s) ∙ entered-at _ (sym e ∙ o)
-
--- ---- runs
 
 module _ (g : Grid) (view : View) (d : Direction) where
   abbrev run : (k v : ℕ) → ℕ
@@ -72,27 +53,19 @@ module _ (g : Grid) (view : View) (d : Direction) where
           on true c = omega (arith, run-on v e k c, run-on v e n c, rest w)
           on false c = omega (arith, run-unclear v e (suc k) c, run-unclear v e (suc n) c)
 
-  -- a run is at most as long as was asked
-  pub run-within : (k v : ℕ) → run k v ≤ k
-  run-within k v = omega (arith, run-lesser k k v (omega arith))
-
-  -- the count that a byte holds
-  pub beyond-within : (v : ℕ) → runBeyond g view d v ≤ 15
-  unfolding runBeyond
-  beyond-within v = run-within 15 v
-
+  -- the count of a vertex, by its neighbour
   module _ (v : ℕ) where
     pub beyond-outside : entered g v (toward d) ≡ outside → 0 ≡ runBeyond g view d v
     unfolding runBeyond
-    beyond-outside e = sym (run-outside v 15 e)
+    beyond-outside e = sym (run-outside v 255 e)
 
     module _ {w : ℕ} (e : entered g v (toward d) ≡ at w) where
       pub beyond-unclear : clear view w ≡ false → 0 ≡ runBeyond g view d v
       unfolding runBeyond
-      beyond-unclear unclear = sym (run-unclear v e 15 unclear)
+      beyond-unclear unclear = sym (run-unclear v e 255 unclear)
 
-      pub beyond-on : clear view w ≡ true → lesser 15 (runBeyond g view d w + 1) ≡ runBeyond g view d v
+      pub beyond-on : clear view w ≡ true → lesser 255 (runBeyond g view d w + 1) ≡ runBeyond g view d v
       unfolding runBeyond
       beyond-on is-clear =
-          let last : run 14 w ≡ lesser 14 (run 15 w) = run-lesser 14 15 w (omega arith) in
-          omega (arith, run-on v e 14 is-clear, last)
+          let last : run 254 w ≡ lesser 254 (run 255 w) = run-lesser 254 255 w (omega arith) in
+          omega (arith, run-on v e 254 is-clear, last)

@@ -1,7 +1,9 @@
 -- The laws of clear runs.
 --     Counts     runs by one neighbour, and at most so many of a run
---     Passes     a turn of each pass over the vertices
---     Rooms      what a byte tells of the room beyond its vertex
+--     Spans      counts are stored, one by one or a span of them
+--     Rows       the rows of the grid get their counts
+--     Rooms      what a count tells of the room beyond its vertex
 pub mod Counts
-mod Passes
-mod Rooms
+mod Spans
+mod Rows
+pub mod Rooms

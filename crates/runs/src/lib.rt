@@ -1,4 +1,2 @@
-// The clear runs of every vertex, and moves that ask them instead of counting along the track.
+// The clear runs of every vertex, made once when a net begins.
 pub mod fill;
-pub mod overhead;
-pub mod step;

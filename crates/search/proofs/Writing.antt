@@ -1,29 +1,34 @@
--- The turns of writing the route that follows the table.
---     Writing            what has been written, and that the rest gives the whole
---     writing-begun      before the first move
---     writing-number     the number of the next move
---     writing-legal      the next move is legal
---     writing-fits, writing-on     what is known of it, and after it
---     writing-done       after the last
-use Prim.Native.Nat.{ℕ, suc, _+_, _-_, _*_, _^_, _≤_, _<_}
-use mathlib.Core.Path.{_≡_, refl, sym, ap, _∙_}
+-- The turns of writing the route.
+--     SameGoals, goals-kept, lowest-goals     bytes that tell the same goals; the same move is then the lowest that leads on
+--     follow-no-goal                          where something is followed there is no goal
+--     Writing                                 what has been written, and that the rest gives the whole
+--     writing-begun                           before the first move
+--     writing-joins, writing-number           the walk is on a cheapest join; the number of the next move
+--     writing-legal                           the next move is legal
+--     writing-fits, writing-on                what is known of it, and after it
+--     writing-done                            after the last
+use Prim.Native.Nat.{ℕ, zero, suc, _+_, _-_, _*_, _^_, _≤_, _<_}
+use mathlib.Core.Path.{_≡_, refl, sym, ap, fun-ext, _∙_}
 use mathlib.Core.List.{List, [], _∷_, _++_}
+use mathlib.Core.Bool.{Bool, true, false}
 use native.Mathlib.Omega.{arith}
 use lib.ListN.{length, getD, set}
+use lib.Dec.{eqb}
 use Rattle.bits.specs.Bits.{fieldBits, putBits}
 use Rattle.bits.proofs.Laws.{length-fieldBits, length-putBits, putBits-append}
-use Rattle.job.specs.Grid.{vertices}
 use Rattle.job.specs.Packing.{concatBits}
 use Rattle.job.specs.Structs.{gridOf}
-use Rattle.paths.specs.Systems.{blocked, to}
-use Rattle.paths.specs.Distances.{fin, lowestKeeping, follow}
-use Rattle.paths.proofs.Following.{Onward, follow-onward}
+use Rattle.paths.specs.Systems.{blocked, to, System}
+use Rattle.paths.specs.Distances.{Cost, lowestKeeping, follow}
+use Rattle.paths.specs.Marks.{lowestLead}
+use Rattle.paths.proofs.Following.{follow-goal, Onward, follow-onward}
 use Rattle.rules.specs.Views.{View}
 use Rattle.rules.specs.Segments.{Place}
+use Rattle.rules.specs.Prices.{Tech}
 use Rattle.rules.specs.Steps.{Made, legal, step, priced}
 use Rattle.rules.specs.Joins.{places}
 use Rattle.rules.specs.Seen.{viewBy}
-use Rattle.rules.specs.Places.{codeBy}
+use Rattle.rules.specs.Places.{placeCode, GoodPlace}
 use Rattle.rules.specs.Structs.{directionOf, TechFits, techBy, placeOf, steppedBy, madeBy, Whole, WholeStep, IsStepped}
 use Rattle.rules.specs.declared.price.Tech.{Tech as TechStruct}
 use Rattle.rules.specs.declared.step.Made.{Made as MadeStruct}
@@ -37,29 +42,69 @@ use Rattle.walker.specs.declared.Walk.{Walk}
 use Rattle.walker.proofs.Landing.{MoveFits, made-fits, made-entered, MovesMade, made-none, made-one, made-all}
 use Rattle.walker.proofs.Entering.{enter-step}
 use Rattle.walker.proofs.Nets.{empty}
-use Rattle.search.specs.Tables.{tableBy, systemBy, Searched}
-use Rattle.search.specs.Traces.{routeBy}
-use Rattle.search.proofs.Followed.{number-lowest}
+use Rattle.heap.specs.Heaps.{keyOf}
+use Rattle.front.specs.Fronts.{systemBy, reachedBy, markBy}
+use Rattle.front.specs.Leads.{lowestBy}
+use Rattle.front.specs.Charts.{Charted, lowestMarked}
+use Rattle.search.specs.Traces.{toGo, routeBy}
+use Rattle.search.proofs.Tracing.{OnJoin, start-on, on-lowest, on-next}
 
-module _ (tech : TechStruct) (seen work : List ℕ) (net from count start : ℕ) (first : Arrays) (found : List ℕ) where
+-- two lists of bytes tell the same goals
+abbrev pub SameGoals : (spots others : List ℕ) → Type 0
+SameGoals spots others = (v : ℕ) → eqb (getD spots v 0) 2 ≡ eqb (getD others v 0) 2
+
+-- they still do where a vertex that is no goal enters the tree
+goals-kept : (spots : List ℕ) (v w : ℕ) → eqb (getD spots v 0) 2 ≡ false → eqb (getD (set spots v 1) w 0) 2 ≡ eqb (getD spots w 0) 2
+goals-kept [] v w e = refl
+goals-kept (x ∷ xs) zero zero e = sym e
+goals-kept (x ∷ xs) zero (suc w) e = refl
+goals-kept (x ∷ xs) (suc v) zero e = refl
+goals-kept (x ∷ xs) (suc v) (suc w) e = goals-kept xs v w e
+
+-- then the same move is the lowest that leads on
+lowest-goals : (t : Tech) (view : View) (work : List ℕ) (best : ℕ) (p : Place) (e : ℕ) (spots others : List ℕ) → SameGoals spots others
+    → lowestBy t view spots work best p e ≡ lowestBy t view others work best p e
+lowest-goals t view work best p e spots others same =
+    ap (λ (goal : Place → Bool). lowestLead (record { Place = Place; moves = 4; step = λ q m. priced (step t view q m); goal = goal }) (reachedBy t work)
+    best (markBy t work) p e) (fun-ext (λ q. same (q .vertex)))
+
+-- where something is followed there is no goal
+follow-no-goal : (S : System) (D : S .Place → Cost) (k : ℕ) (p : S .Place) → 0 < length (follow S D k p) → S .goal p ≡ false
+follow-no-goal S D k p some = by (S .goal p) refl
+  where
+    by : (b : Bool) → S .goal p ≡ b → S .goal p ≡ false
+    by true g = absurd (omega (arith, some, ap (λ (ms : List ℕ). length ms) (follow-goal S D k g)))
+    by false g = g
+
+module _ (tech : TechStruct) (seen work : List ℕ) (net from best count start : ℕ) (first : Arrays) (found : List ℕ) where
   -- what the net at hand sees
   abbrev view : View
   view = viewBy (gridOf (tech .grid)) seen
 
+  -- places and moves, with the goals by the first bytes, and the costs to go
+  abbrev S : System
+  S = systemBy (techBy tech) view (first .spots)
+
+  abbrev D : Place → Cost
+  D = toGo (techBy tech) view (first .spots)
+
   -- the moves from a place, with so many left at most
   abbrev moves-from : (fuel : ℕ) → Place → List ℕ
-  moves-from fuel p = follow (systemBy (techBy tech) view (first .spots)) (tableBy (techBy tech) work) fuel p
+  moves-from fuel p = follow S D fuel p
 
   -- all moves
   abbrev pub route : List ℕ
-  route = routeBy (techBy tech) view (first .spots) work start
+  route = routeBy (techBy tech) view (first .spots) start
 
-  -- so many moves are left: the rest from where the walk has led gives the whole, in the arrays and in the plan
+  -- so many moves are left: the rest from where the walk has led gives the whole, in the arrays and in the plan; until the last is made the walk
+  -- is on a cheapest join, and has entered no unjoined pin
   pub record Writing (spots codes plan : List ℕ) (walk : Walk) (at left : ℕ) : Type 0 where
     pub gone : Gone
     pub fuel : ℕ
     pub made : MovesMade tech (count - left) walk gone
     pub rest : length (moves-from fuel (gone .place)) ≡ left
+    pub joins : 0 < left → OnJoin (techBy tech) view (first .spots) work best (gone .place)
+    pub goals : 0 < left → SameGoals spots (first .spots)
     pub same : enterAll (techBy tech) view net route (goneAt start) first
         ≡ enterAll (techBy tech) view net (moves-from fuel (gone .place)) gone (record { spots = spots; codes = codes })
     pub bits : putBits found from (concatBits (fieldBits 2) route) ≡ putBits plan at (concatBits (fieldBits 2) (moves-from fuel (gone .place)))
@@ -69,16 +114,19 @@ module _ (tech : TechStruct) (seen work : List ℕ) (net from count start : ℕ)
     pub long : length plan ≡ length found
 
   -- before the first move
-  pub writing-begun : {walk : Walk} → walk ≡ walkFrom start → start < vertices (gridOf (tech .grid)) → count ≡ length route
-      → Writing (first .spots) (first .codes) found walk from count
-  unfolding routeBy goneAt
-  writing-begun begun on counted =
+  pub writing-begun : {walk : Walk} → walk ≡ walkFrom start → TechFits tech → Charted (techBy tech) view (first .spots) work best
+      → start ≡ lowestMarked (techBy tech) view (first .spots) work → count ≡ length route → Writing (first .spots) (first .codes) found walk from count
+  unfolding routeBy goneAt techBy
+  writing-begun begun fits charted lowest counted =
       let none : count - count ≡ 0 = omega arith in
+      let on = start-on (techBy tech) view (first .spots) charted (fits .good) in
       record {
         gone = goneAt start;
         fuel = places (techBy tech);
-        made = rw (begun, none) (made-none tech start on);
+        made = rw (begun, none) (made-none tech start (rw lowest (on .0)));
         rest = sym counted;
+        joins = λ some. rw lowest (on .1);
+        goals = λ some v. refl;
         same = refl;
         bits = refl;
         next = refl;
@@ -89,22 +137,28 @@ module _ (tech : TechStruct) (seen work : List ℕ) (net from count start : ℕ)
 
   module _ {spots codes plan : List ℕ} {walk : Walk} {at left : ℕ} (so-far : Writing spots codes plan walk at left) (some : 0 < left) where
     -- the move that is next
-    pub onward : Onward (systemBy (techBy tech) view (first .spots)) (tableBy (techBy tech) work) (so-far .fuel) (so-far .gone .place)
+    pub onward : Onward S D (so-far .fuel) (so-far .gone .place)
     onward = follow-onward _ _ (so-far .fuel) (so-far .gone .place) (omega (arith, some, so-far .rest))
 
     -- it is the lowest that keeps the entry
     abbrev pub Lowest : ℕ → Type 0
-    Lowest number = number ≡ lowestKeeping (systemBy (techBy tech) view (first .spots)) (tableBy (techBy tech) work) (so-far .gone .place) (onward .cost)
+    Lowest number = number ≡ lowestKeeping S D (so-far .gone .place) (onward .cost)
 
-    -- its number, in the code's words
-    pub writing-number : {largest : ℕ} → Searched tech largest → {entry number : ℕ} → entry ≡ getD work (codeBy largest (placeOf (walk .place))) 0
-        → ((bytes : List ℕ) (n : ℕ) → entry ≡ suc n
-        → number ≡ lowestKeeping (systemBy (techBy tech) view bytes) (tableBy (techBy tech) work) (placeOf (walk .place)) n) → Lowest number
-    writing-number held {entry} {number} told low =
-        let here = so-far .made .is .place in
-        let cost : tableBy (techBy tech) work (placeOf (walk .place)) ≡ fin (onward .cost) = rw here (onward .entry) in
-        number-lowest held (walk .place) (so-far .made .place) seen (first .spots) work (onward .cost) cost told low
-        ∙ ap (λ (p : Place). lowestKeeping (systemBy (techBy tech) view (first .spots)) (tableBy (techBy tech) work) p (onward .cost)) here
+    -- the place that the walk has led to is good
+    place-good : GoodPlace (techBy tech) (so-far .gone .place)
+    place-good = rw (← so-far .made .is .place) (so-far .made .place)
+
+    -- and on a cheapest join
+    pub writing-joins : OnJoin (techBy tech) view (first .spots) work best (placeOf (walk .place))
+    writing-joins = rw (so-far .made .is .place) (so-far .joins some)
+
+    -- its number, in the code's words: the bytes still tell the goals
+    pub writing-number : TechFits tech → Charted (techBy tech) view (first .spots) work best → {number : ℕ}
+        → ((e : ℕ) → keyOf (getD work (placeCode (techBy tech) (placeOf (walk .place))) 0) ≡ suc e
+        → number ≡ lowestBy (techBy tech) view spots work best (placeOf (walk .place)) e) → Lowest number
+    writing-number fits charted {number} low =
+        on-lowest (techBy tech) view (first .spots) charted (fits .good) place-good (so-far .joins some) (onward .entry) (λ e is.
+        (rw (so-far .made .is .place) at low) e is ∙ lowest-goals (techBy tech) view work best (so-far .gone .place) e spots (first .spots) (so-far .goals some))
 
     module _ {number : ℕ} (numbered : Lowest number) {r : SteppedEnum}
         (stepped : IsStepped (gridOf (tech .grid)) view (walk .place .vertex) r (step (techBy tech) view (placeOf (walk .place)) number)) where
@@ -149,13 +203,19 @@ module _ (tech : TechStruct) (seen work : List ℕ) (net from count start : ℕ)
         pub writing-fits : TechFits tech → MoveFits tech m
         writing-fits fits = made-fits tech view (walk .place) number m is-step is-whole fits (so-far .made .place)
 
+        -- where more moves follow, it enters no goal
+        no-goal : 0 < left - 1 → S .goal (placeOf (m .next)) ≡ false
+        no-goal more =
+            follow-no-goal S D (onward .left) (placeOf (m .next)) (omega (arith, more, so-far .rest, ap (λ (ms : List ℕ). length ms) is-first))
+
         -- after the move
-        pub writing-on : TechFits tech → {more after longer : List ℕ} {further : Walk} {next : ℕ} → more ≡ set spots (m .next .vertex) 1
+        pub writing-on : TechFits tech → Charted (techBy tech) view (first .spots) work best → {more after longer : List ℕ} {further : Walk} {next : ℕ}
+            → more ≡ set spots (m .next .vertex) 1
             → after ≡ layAll net (beyond (gridOf (tech .grid)) (directionOf (m .toward)) (m .added) (walk .place .vertex) ++ (m .next .vertex ∷ [])) codes
             → longer ≡ putBits plan at (fieldBits 2 number) → next ≡ at + 2 → further ≡ walkOn walk m
             → Writing more after longer further next (left - 1)
         unfolding goneOn madeBy concatBits
-        writing-on fits {more} {after} {longer} {further} {next} marked laid put moved walked =
+        writing-on fits charted {more} {after} {longer} {further} {next} marked laid put moved walked =
             let arrays = made-entered tech view (walk .place) number m is-step is-whole net spots codes marked laid in
             let one : count - (left - 1) ≡ suc (count - left) = omega (arith, so-far .few, some) in
             let rest = moves-from (onward .left) (placeOf (m .next)) in
@@ -166,6 +226,9 @@ module _ (tech : TechStruct) (seen work : List ℕ) (net from count start : ℕ)
               fuel = onward .left;
               made = rw (walked, one) (made-one tech view m (so-far .made) (writing-fits fits) is-whole);
               rest = omega (arith, so-far .rest, ap (λ (ms : List ℕ). length ms) is-first);
+              joins = λ yet. on-next (techBy tech) view (first .spots) charted (fits .good) place-good (so-far .joins some) (onward .entry)
+                  (rw is-next at (onward .leads)) (no-goal yet);
+              goals = λ yet v. rw marked (goals-kept spots (m .next .vertex) v (so-far .goals some (m .next .vertex) ∙ no-goal yet)) ∙ so-far .goals some v;
               same =
                   so-far .same ∙ ap (λ (ms : List ℕ). enterAll (techBy tech) view net ms (so-far .gone) (record { spots = spots; codes = codes })) is-first
                   ∙ enter-step (techBy tech) view net number rest (so-far .gone) _ here

@@ -1,9 +1,8 @@
 -- What a record leaves, as the code answers it.
 --     leftBy       the arrays after a record
 --     IsJoined     the walk of a join and the bit after its record, or none
-use Prim.Native.Nat.{ℕ, _+_, _*_, _^_, _≤_}
+use Prim.Native.Nat.{ℕ, _+_, _*_, _≤_}
 use mathlib.Core.Path.{_≡_}
-use mathlib.Core.List.{List}
 use lib.ListN.{length}
 use Rattle.rules.specs.Views.{View}
 use Rattle.rules.specs.Prices.{Tech}

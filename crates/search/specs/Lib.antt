@@ -1,8 +1,5 @@
--- The costs to go from every place, as the code holds and lowers them, and the join that they tell.
---     Tables     the table of costs in a slice
---     Passes     what a pass over the table does
---     Traces     the best start, and the route that follows the table
-pub mod Tables
-pub mod Passes
+-- The join that a search from the tree tells.
+--     Traces     the best start, and the route from there
+--     Joined     what a record leaves, as the code answers it
 pub mod Traces
 pub mod Joined

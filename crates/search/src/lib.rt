@@ -1,9 +1,6 @@
-// The search for a cheapest join: the costs to go from every place, the best start, and the moves that follow the costs.
+// The join that a search from the tree tells: its moves are counted, written into the plan and walked.
 pub mod join;
-pub mod places;
+pub mod next;
 pub mod record;
-pub mod relax;
-pub mod start;
-pub mod table;
 pub mod trace;
 pub mod write;

@@ -1,20 +1,15 @@
-// The route that follows the table: at each place the lowest move that keeps its cost, until an unjoined pin.
+// The route of the join that a search found: at each place the lowest move that leads on, until an unjoined pin.
 ghost use mathlib.Core.Path.{_≡_};
-ghost use mathlib.Core.List.{List};
-ghost use Prim.Native.Nat.{ℕ, suc, _<_};
+ghost use Prim.Native.Nat.{_<_};
 ghost use lib.ListN.{length, getD};
 ghost use lib.Dec.{eqb};
-ghost use Rattle.job.specs.Grid.{vertices};
 ghost use Rattle.job.specs.Structs.{gridOf};
-ghost use Rattle.paths.specs.Distances.{fin, Table, lowestKeeping};
 ghost use Rattle.rules.specs.Seen.{viewBy};
-ghost use Rattle.rules.specs.Walks.{startAt};
-ghost use Rattle.rules.specs.Places.{GoodPlace};
-ghost use Rattle.rules.specs.Structs.{techBy, placeOf};
-ghost use Rattle.search.specs.Tables.{tableBy, systemBy, Searched, Readable};
+ghost use Rattle.rules.specs.Structs.{techBy};
+ghost use Rattle.front.specs.Fronts.{Searched};
+ghost use Rattle.front.specs.Charts.{Charted, lowestMarked};
 ghost use Rattle.search.specs.Traces.{routeBy};
-use crate::table::entry_by;
-use crate::table::entry_of;
+use front::lead::lowest_lead;
 use rules::price::Tech;
 use rules::segment::Segment;
 use rules::step::Place;
@@ -30,29 +25,7 @@ pub fn ends_at(spots: &[u8; 16384], vertex: usize) -> bool
     spots[vertex] == UNJOINED
 }
 
-// The lowest move that keeps the cost of a place, whose entry is given. It does not depend on which pins are unjoined.
-pub fn lowest_keeping(
-    tech: Tech,
-    seen: &[u8; 16384],
-    largest: usize,
-    work: &[u64],
-    place: Place,
-    entry: u64,
-) -> usize
-    requires { ⌜ (Searched tech largest) × (GoodPlace (techBy tech) (placeOf place)) × (Readable (techBy tech) (now work)) ⌝ }
-    ensures { λ r. ⌜ ((spots : List ℕ) (c : ℕ) → entry ≡ suc c
-        → r ≡ lowestKeeping (systemBy (techBy tech) (viewBy (gridOf (tech .grid)) (now (seen .entry))) spots) (tableBy (techBy tech) (now (work .entry)))
-        (placeOf place) c) ⌝ }
-{
-    for number in 0..4 {
-        if entry_by(tech, seen, largest, work, place, number) == entry {
-            return number;
-        }
-    }
-    4
-}
-
-// How many moves the route from a start has.
+// How many moves the route has.
 pub fn count_moves(
     tech: Tech,
     seen: &[u8; 16384],
@@ -60,11 +33,11 @@ pub fn count_moves(
     largest: usize,
     work: &[u64],
     start: usize,
+    best: u64,
 ) -> usize
-    requires { ⌜ (Searched tech largest) × (Readable (techBy tech) (now work)) × (start < vertices (gridOf (tech .grid)))
-        × (Table (systemBy (techBy tech) (viewBy (gridOf (tech .grid)) (now seen)) (now spots)) (GoodPlace (techBy tech)) (tableBy (techBy tech) (now work)))
-        × ((c : ℕ) × (tableBy (techBy tech) (now work) (startAt start) ≡ fin c)) ⌝ }
-    ensures { λ r. ⌜ r ≡ length (routeBy (techBy tech) (viewBy (gridOf (tech .grid)) (now (seen .entry))) (now (spots .entry)) (now (work .entry)) start) ⌝ }
+    requires { ⌜ (Searched tech largest) × (Charted (techBy tech) (viewBy (gridOf (tech .grid)) (now seen)) (now spots) (now work) best)
+        × (start ≡ lowestMarked (techBy tech) (viewBy (gridOf (tech .grid)) (now seen)) (now spots) (now work)) ⌝ }
+    ensures { λ r. ⌜ r ≡ length (routeBy (techBy tech) (viewBy (gridOf (tech .grid)) (now (seen .entry))) (now (spots .entry)) start) ⌝ }
 {
     let mut place = Place {
         vertex: start,
@@ -72,8 +45,7 @@ pub fn count_moves(
     };
     let mut count = 0;
     while !ends_at(spots, place.vertex) {
-        let entry = entry_of(largest, work, place);
-        let number = lowest_keeping(tech, seen, largest, work, place, entry);
+        let number = lowest_lead(tech, seen, spots, largest, work, place, best);
         let Stepped::Legal(made) = step(tech, seen, place, number) else {
             return count;
         };

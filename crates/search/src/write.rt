@@ -1,4 +1,4 @@
-// The route that follows the table, written into the plan and walked: what it enters becomes metal and tree.
+// The route of the join that a search found, written into the plan and walked: what it enters becomes metal and tree.
 ghost use mathlib.Core.Path.{_≡_};
 ghost use Prim.Native.Nat.{_<_, _≤_, _^_};
 ghost use lib.ListN.{length};
@@ -10,11 +10,11 @@ ghost use Rattle.rules.specs.Seen.{viewBy};
 ghost use Rattle.rules.specs.Structs.{techBy};
 ghost use Rattle.walker.specs.Entering.{goneAt, enterAll, leftIn};
 ghost use Rattle.walker.specs.Structs.{WalkFits, IsEntered};
-ghost use Rattle.search.specs.Tables.{Searched, Readable};
+ghost use Rattle.front.specs.Fronts.{Searched};
+ghost use Rattle.front.specs.Charts.{Charted, lowestMarked};
 ghost use Rattle.search.specs.Traces.{routeBy};
-use crate::table::entry_of;
-use crate::trace::lowest_keeping;
 use bits::Cursor;
+use front::lead::lowest_lead;
 use rules::price::Tech;
 use rules::step::Stepped;
 use rules::step::step;
@@ -35,33 +35,34 @@ pub fn write_moves(
     net: u16,
     from: usize,
     start: usize,
+    best: u64,
     count: usize,
 ) -> Walk
-    requires { ⌜ (Searched tech largest) × (Readable (techBy tech) (now work)) × (vertices (gridOf (tech .grid)) ≤ length (now map))
-        × (start < vertices (gridOf (tech .grid))) × (from < 2 ^ 40) × (count < 2 ^ 20)
-        × (count ≡ length (routeBy (techBy tech) (viewBy (gridOf (tech .grid)) (now seen)) (now spots) (now work) start)) ⌝ }
+    requires { ⌜ (Searched tech largest) × (Charted (techBy tech) (viewBy (gridOf (tech .grid)) (now seen)) (now spots) (now work) best)
+        × (start ≡ lowestMarked (techBy tech) (viewBy (gridOf (tech .grid)) (now seen)) (now spots) (now work))
+        × (vertices (gridOf (tech .grid)) ≤ length (now map)) × (from < 2 ^ 40) × (count < 2 ^ 20)
+        × (count ≡ length (routeBy (techBy tech) (viewBy (gridOf (tech .grid)) (now seen)) (now spots) start)) ⌝ }
     ensures walk { λ r. ⌜ IsEntered r (enterAll (techBy tech) (viewBy (gridOf (tech .grid)) (now (seen .entry))) net
-        (routeBy (techBy tech) (viewBy (gridOf (tech .grid)) (now (seen .entry))) (now (spots .entry)) (now (work .entry)) start) (goneAt start)
+        (routeBy (techBy tech) (viewBy (gridOf (tech .grid)) (now (seen .entry))) (now (spots .entry)) start) (goneAt start)
         (record { spots = now (spots .entry); codes = now (map .entry) })) ⌝ }
     ensures fits { λ r. ⌜ WalkFits r ⌝ }
     ensures spots { λ _. ⌜ now (spots .exit) ≡ leftIn (record { spots = now (spots .entry); codes = now (map .entry) })
         (enterAll (techBy tech) (viewBy (gridOf (tech .grid)) (now (seen .entry))) net
-        (routeBy (techBy tech) (viewBy (gridOf (tech .grid)) (now (seen .entry))) (now (spots .entry)) (now (work .entry)) start) (goneAt start)
+        (routeBy (techBy tech) (viewBy (gridOf (tech .grid)) (now (seen .entry))) (now (spots .entry)) start) (goneAt start)
         (record { spots = now (spots .entry); codes = now (map .entry) })) .spots ⌝ }
     ensures map { λ _. ⌜ now (map .exit) ≡ leftIn (record { spots = now (spots .entry); codes = now (map .entry) })
         (enterAll (techBy tech) (viewBy (gridOf (tech .grid)) (now (seen .entry))) net
-        (routeBy (techBy tech) (viewBy (gridOf (tech .grid)) (now (seen .entry))) (now (spots .entry)) (now (work .entry)) start) (goneAt start)
+        (routeBy (techBy tech) (viewBy (gridOf (tech .grid)) (now (seen .entry))) (now (spots .entry)) start) (goneAt start)
         (record { spots = now (spots .entry); codes = now (map .entry) })) .codes ⌝ }
     ensures plan { λ _. ⌜ now (plan .exit) ≡ putBits (now (plan .entry)) from (concatBits (fieldBits 2)
-        (routeBy (techBy tech) (viewBy (gridOf (tech .grid)) (now (seen .entry))) (now (spots .entry)) (now (work .entry)) start)) ⌝ }
+        (routeBy (techBy tech) (viewBy (gridOf (tech .grid)) (now (seen .entry))) (now (spots .entry)) start)) ⌝ }
 {
     let mut walk = walk_from(start);
     let mut at = from;
     let mut left = count;
     while 0 < left {
         let place = walk.place;
-        let entry = entry_of(largest, work, place);
-        let number = lowest_keeping(tech, seen, largest, work, place, entry);
+        let number = lowest_lead(tech, seen, spots, largest, work, place, best);
         let Stepped::Legal(made) = step(tech, seen, place, number) else {
             return walk;
         };

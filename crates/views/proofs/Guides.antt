@@ -1,62 +1,82 @@
 -- The guide, box by box.
---     guide-none, guide-begun                     with no boxes, and before the first is looked at
---     guide-inside, guide-outside, guide-done     a vertex in a box, a vertex outside it, and no box left
+--     guide-all                                         the byte of a vertex, from one that says only whether there are boxes
+--     BoxesLeft, guide-begin, guide-turn, guide-end     the loop over the boxes: before a turn, before the first, a turn, after the last
 use Prim.Native.Nat.{ℕ, zero, suc, _+_, _-_, _*_, _≤_, _<_}
-use mathlib.Core.Path.{_≡_, refl, _∙_}
-use mathlib.Core.List.{List, _∷_}
-use mathlib.Core.Bool.{Bool, true, false, _||_}
+use mathlib.Core.Path.{_≡_, refl, sym, ap, _∙_}
+use mathlib.Core.List.{List}
+use mathlib.Core.Bool.{Bool, true, false, _||_, not}
 use native.Mathlib.Omega.{arith}
+use lib.ListN.{length, getD}
+use lib.Dec.{eqb}
+use borrow.Author.Tests.{ne-eqb}
 use Rattle.job.specs.Lists.{any}
-use Rattle.job.specs.Grid.{Vertex}
+use Rattle.job.specs.Grid.{Grid, Vertex, vertices}
 use Rattle.job.specs.Structs.{boxOf, boxStruct}
 use Rattle.job.specs.declared.groups.Box.{Box as BoxStruct}
+use Rattle.rules.specs.Tracks.{vertexBy}
 use Rattle.rules.specs.Views.{inBox, inGuide}
-use Rattle.views.specs.Sight.{boxIn, boxesIn}
+use Rattle.views.specs.Sight.{boxIn, boxesIn, takenCode, seenByte, guidedByte, GuidedWhere, sightOf}
+use Rattle.views.proofs.Spans.{guided-twice}
 
-module _ (numbers : List ℕ) (n : ℕ) (v : Vertex) where
-  -- whether the vertex is in a box from the i-th on
-  abbrev pub inRest : (i : ℕ) → Type 0
-  inRest i = inGuide (boxesIn numbers 0 n) v ≡ any (inBox v) (boxesIn numbers (6 * i) (n - i))
+-- the flag of the outside, taken off where it stands
+guided-flag : (b t : Bool) (found : Bool) → guidedByte found (seenByte b t true) ≡ seenByte b t (not found)
+unfolding guidedByte seenByte
+guided-flag b t false = refl
+guided-flag true true true = refl
+guided-flag true false true = refl
+guided-flag false true true = refl
+guided-flag false false true = refl
 
-  -- no boxes
-  pub guide-none : n ≡ 0 → inGuide (boxesIn numbers 0 n) v ≡ true
-  unfolding inGuide boxesIn
-  guide-none e = rw e
+-- the guide, from a byte that says only whether there are boxes
+guide-all : (numbers : List ℕ) (b t : Bool) (w : Vertex) (n : ℕ)
+    → guidedByte (any (inBox w) (boxesIn numbers (6 * 0) (n - 0))) (seenByte b t (not (eqb n 0))) ≡ seenByte b t (not (inGuide (boxesIn numbers 0 n) w))
+unfolding inGuide boxesIn any guidedByte
+guide-all numbers b t w zero = refl
+guide-all numbers b t w (suc n) =
+    let all : suc n - 0 ≡ suc n = omega arith in
+    rw (all, ne-eqb (suc n) 0 (λ e. omega (arith, e))) (guided-flag b t (any (inBox w) (boxesIn numbers 0 (suc n))))
 
-  -- some boxes, and none looked at
-  pub guide-begun : 0 < n → inRest 0
-  unfolding inGuide boxesIn
-  guide-begun = by n
-    where
-      by : (m : ℕ) → 0 < m → inGuide (boxesIn numbers 0 m) v ≡ any (inBox v) (boxesIn numbers (6 * 0) (m - 0))
-      by zero h = absurd (omega (arith, h))
-      by (suc m) h = let all : suc m - 0 ≡ suc m = omega arith in rw all refl
+module _ (g : Grid) (marks codes numbers : List ℕ) (n net : ℕ) where
+  -- before a turn: the boxes that are left make the bytes whole
+  pub record BoxesLeft (found seen : List ℕ) (i : ℕ) : Type 0 where
+    pub size : length seen ≡ length found
+    pub left : (v : ℕ) → v < vertices g
+        → guidedByte (any (inBox (vertexBy g v)) (boxesIn numbers (6 * i) (n - i))) (getD seen v 0) ≡ sightOf g marks codes (boxesIn numbers 0 n) net v
 
-  module _ {i : ℕ} (rest : inRest i) where
+  -- before the first turn: the bytes tell of the marks and the codes
+  pub guide-begin : {found : List ℕ}
+      → ((v : ℕ) → v < vertices g → getD found v 0 ≡ seenByte (not (eqb (getD marks v 0) 0)) (takenCode net (getD codes v 0)) (not (eqb n 0)))
+      → BoxesLeft found found 0
+  unfolding sightOf
+  guide-begin made =
+      record {
+        size = refl;
+        left = λ v on. ap (guidedByte _) (made v on) ∙ guide-all numbers (not (eqb (getD marks v 0) 0)) (takenCode net (getD codes v 0)) (vertexBy g v) n;
+      }
+
+  module _ {found seen : List ℕ} {i : ℕ} (h : BoxesLeft found seen i) where
     -- one box and those after it
-    guide-next : i < n → any (inBox v) (boxesIn numbers (6 * i) (n - i)) ≡ any (inBox v) (boxIn numbers (6 * i) ∷ boxesIn numbers (6 * (i + 1)) (n - (i + 1)))
-    unfolding boxesIn
-    guide-next h =
-        let more : n - i ≡ suc (n - (i + 1)) = omega arith in
-        let place : 6 * i + 6 ≡ 6 * (i + 1) = omega arith in
-        rw (more, place) refl
-
-    -- the box that the code reads, and its test
-    module _ {b : BoxStruct} {told : Bool} (more : i < n) (read : b ≡ boxStruct (boxIn numbers (6 * i))) (test : told ≡ inBox v (boxOf b)) where
-      -- so the vertex is in the rest where it is in the box or behind it
-      guide-box : inGuide (boxesIn numbers 0 n) v ≡ (told || any (inBox v) (boxesIn numbers (6 * (i + 1)) (n - (i + 1))))
-      unfolding any
-      guide-box = rest ∙ guide-next more ∙ rw (test, read) refl
-
-      -- it is in the box
-      pub guide-inside : told ≡ true → inGuide (boxesIn numbers 0 n) v ≡ true
-      guide-inside e = guide-box ∙ rw e refl
-
-      -- it is not
-      pub guide-outside : told ≡ false → inRest (i + 1)
-      guide-outside e = guide-box ∙ rw e refl
-
-    -- it is in none
-    pub guide-done : n ≤ i → inGuide (boxesIn numbers 0 n) v ≡ false
+    guide-next : i < n → (w : Vertex)
+        → any (inBox w) (boxesIn numbers (6 * i) (n - i)) ≡ (inBox w (boxIn numbers (6 * i)) || any (inBox w) (boxesIn numbers (6 * (i + 1)) (n - (i + 1))))
     unfolding boxesIn any
-    guide-done h = let none : n - i ≡ 0 = omega arith in rest ∙ rw none refl
+    guide-next more w =
+        let some : n - i ≡ suc (n - (i + 1)) = omega arith in
+        let place : 6 * i + 6 ≡ 6 * (i + 1) = omega arith in
+        rw (some, place) refl
+
+    -- a turn finds the vertices of the next box
+    pub guide-turn : {b : BoxStruct} {after : List ℕ} → i < n → b ≡ boxStruct (boxIn numbers (6 * i)) → length after ≡ length seen
+        → GuidedWhere g (λ w. inBox w (boxOf b)) seen after → BoxesLeft found after (i + 1)
+    guide-turn {b} {after} more read size finds = record { size = size ∙ h .size; left = left }
+      where
+        left : (v : ℕ) → v < vertices g
+            → guidedByte (any (inBox (vertexBy g v)) (boxesIn numbers (6 * (i + 1)) (n - (i + 1)))) (getD after v 0)
+            ≡ sightOf g marks codes (boxesIn numbers 0 n) net v
+        left v on =
+            ap (guidedByte _) (finds v on ∙ ap (λ (x : BoxStruct). guidedByte (inBox (vertexBy g v) (boxOf x)) (getD seen v 0)) read)
+            ∙ guided-twice _ _ (getD seen v 0) ∙ ap (λ (p : Bool). guidedByte p (getD seen v 0)) (sym (guide-next more (vertexBy g v))) ∙ h .left v on
+
+    -- after the last turn every vertex has its byte
+    pub guide-end : n ≤ i → (v : ℕ) → v < vertices g → getD seen v 0 ≡ sightOf g marks codes (boxesIn numbers 0 n) net v
+    unfolding boxesIn any guidedByte
+    guide-end done v on = let none : n - i ≡ 0 = omega arith in rw none at (h .left v on)

@@ -1,4 +1,5 @@
 -- Other nets' pins and obstacles, told by the marks.
+--     same-number                  the same vertex, by its number
 --     pins-number, nets-number     a vertex among pins, by its number
 --     apart-after                  where vertices are distinct, one of the first is none of the rest
 --     own-free                     the net's own pins are on no obstacle
@@ -26,6 +27,14 @@ use Rattle.rules.specs.Views.{member, othersHold, pinsOf}
 use Rattle.rules.proofs.Members.{not-both, neither}
 use Rattle.rules.proofs.Standing.{fails, distinct-both}
 
+-- the same vertex, by number
+pub same-number : (g : Grid) (w p : Vertex) → T (inside g w) → T (inside g p) → same w p ≡ eqb (vertexNumber g w) (vertexNumber g p)
+same-number g w p on h = by (same w p) refl
+  where
+    by : (b : Bool) → same w p ≡ b → b ≡ eqb (vertexNumber g w) (vertexNumber g p)
+    by true e = sym (eq-eqb (vertexNumber g w) (vertexNumber g p) (ap (vertexNumber g) (same-eq w p e)))
+    by false e = sym (ne-eqb (vertexNumber g w) (vertexNumber g p) (λ q. not-both {b = same w p} (rw (number-inj g w p on h q) (same-refl p)) e))
+
 module _ (g : Grid) (obstacles : List Obstacle) (w : Vertex) (on : T (inside g w)) where
   -- the vertex's number
   abbrev number : ℕ
@@ -33,19 +42,11 @@ module _ (g : Grid) (obstacles : List Obstacle) (w : Vertex) (on : T (inside g w
 
   -- ---- by number
 
-  -- the same vertex, by number
-  same-number : (p : Vertex) → T (inside g p) → same w p ≡ eqb number (vertexNumber g p)
-  same-number p h = by (same w p) refl
-    where
-      by : (b : Bool) → same w p ≡ b → b ≡ eqb number (vertexNumber g p)
-      by true e = sym (eq-eqb number (vertexNumber g p) (ap (vertexNumber g) (same-eq w p e)))
-      by false e = sym (ne-eqb number (vertexNumber g p) (λ q. not-both {b = same w p} (rw (number-inj g w p on h q) (same-refl p)) e))
-
   -- among good pins
   pins-number : (ps : List Vertex) → All (GoodPin g obstacles) ps → any (same w) ps ≡ member number (map (vertexNumber g) ps)
   unfolding any All member
   pins-number [] good = refl
-  pins-number (p ∷ ps) good = rw (same-number p (good .0 .inside), pins-number ps (good .1)) refl
+  pins-number (p ∷ ps) good = rw (same-number g w p on (good .0 .inside), pins-number ps (good .1)) refl
 
   -- among the pins of good nets
   nets-number : (nets : List Net) → All (GoodNet g obstacles) nets → any (same w) (allPins nets) ≡ any (member number) (map (pinsOf g) nets)

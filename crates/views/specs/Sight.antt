@@ -2,6 +2,8 @@
 --     boxesIn                   boxes, from six numbers each
 --     takenCode                 whether a code tells of another net's metal
 --     seenByte                  the byte of a vertex
+--     inLayer, inRow            a box's vertices on one layer, and on one row
+--     guidedByte, GuidedWhere   the bytes of vertices that are found inside the guide
 --     NetAtHand                 the net of a job that these are of
 --     sightOf, opened           the byte of a vertex with every net's pins blocked, and with the net's own open
 use Prim.Native.Nat.{ℕ, zero, suc, _+_, _-_, _%_, _<_}
@@ -10,12 +12,12 @@ use mathlib.Core.List.{List, [], _∷_, _++_}
 use mathlib.Core.Bool.{Bool, _&&_, not, cond}
 use lib.ListN.{length, getD, set, take}
 use lib.Dec.{eqb}
-use Rattle.job.specs.Grid.{Grid, vertices}
+use Rattle.job.specs.Grid.{Grid, Vertex, vertices}
 use Rattle.job.specs.Job.{Box, Net, Job}
 use Rattle.job.specs.Good.{allPins, GoodJob}
 use Rattle.marks.specs.Marks.{Marks}
 use Rattle.rules.specs.Tracks.{vertexBy}
-use Rattle.rules.specs.Views.{inGuide, pinsOf}
+use Rattle.rules.specs.Views.{between, inGuide, pinsOf}
 use Rattle.rules.specs.Maps.{netCode}
 
 -- the box whose six numbers stand from a place on
@@ -42,6 +44,21 @@ takenCode n code = not (eqb code 0) && not (eqb code n)
 -- the flags that rules/specs/Seen.antt reads: 1 blocked, 2 taken, 4 outside the guide
 unfoldable pub seenByte : (blocked taken outside : Bool) → ℕ
 seenByte blocked taken outside = cond blocked 1 0 + cond taken 2 0 + cond outside 4 0
+
+-- a box's vertices on one layer, and on one row of it
+unfoldable pub inLayer : (layer : ℕ) → Box → Vertex → Bool
+inLayer layer b w = eqb (w .layer) layer && (between (b .rowLow) (w .row) (b .rowHigh) && between (b .columnLow) (w .column) (b .columnHigh))
+
+unfoldable pub inRow : (layer row low high : ℕ) → Vertex → Bool
+inRow layer row low high w = eqb (w .layer) layer && (eqb (w .row) row && between low (w .column) high)
+
+-- the byte of a vertex, without the flag 4 where the vertex is found inside the guide
+unfoldable pub guidedByte : (found : Bool) → (byte : ℕ) → ℕ
+guidedByte found byte = cond found (byte % 4) byte
+
+-- bytes before and after the vertices that a test tells of are found inside the guide
+abbrev pub GuidedWhere : Grid → (test : Vertex → Bool) → (before after : List ℕ) → Type 0
+GuidedWhere g test before after = (v : ℕ) → v < vertices g → getD after v 0 ≡ guidedByte (test (vertexBy g v)) (getD before v 0)
 
 -- net k of a good job, with its pins and boxes in arrays, the marks of the job, and the map's codes of the metal
 pub record NetAtHand (j : Job) (k : ℕ) (metal : List (List ℕ)) (marks codes pins boxes : List ℕ) (pinCount boxCount : ℕ) : Type 0 where

@@ -8,16 +8,18 @@ ghost use lib.Dec.{eqb};
 ghost use Rattle.job.specs.Lists.{All};
 ghost use Rattle.job.specs.Grid.{vertices};
 ghost use Rattle.job.specs.Job.{Job};
-ghost use Rattle.job.specs.Structs.{Sized, gridOf};
-ghost use Rattle.rules.specs.Views.{viewOf};
+ghost use Rattle.job.specs.Structs.{Sized, gridOf, boxOf};
+ghost use Rattle.rules.specs.Views.{inBox, viewOf};
 ghost use Rattle.rules.specs.Seen.{viewBy};
-ghost use Rattle.views.specs.Sight.{boxesIn, takenCode, seenByte, NetAtHand, sightOf, opened};
-use crate::guide::in_guide;
+ghost use Rattle.views.specs.Sight.{boxesIn, takenCode, seenByte, inRow, inLayer, GuidedWhere, NetAtHand, sightOf, opened};
+use crate::guide::box_in;
 use job::grid::Grid;
+use job::grid::Vertex;
+use job::groups::Box;
+use job::groups::Span;
 use rules::seen::BLOCKED;
 use rules::seen::OUTSIDE;
 use rules::seen::TAKEN;
-use rules::track::vertex_by;
 
 // A flag where a test holds.
 fn flag_if(holds: bool, flag: u8) -> u8
@@ -42,7 +44,74 @@ fn byte_of(mark: u8, code: u16, net: u16, inside: bool) -> u8
     blocked + taken + flag_if(!inside, OUTSIDE)
 }
 
-// Every net's pins are blocked.
+// The bytes of the first vertices, in one pass: every net's pins are blocked, and all vertices are inside the guide or none is.
+fn see_marks(
+    seen: &mut [u8],
+    marks: &[u8; 16384],
+    map: &[u16],
+    count: usize,
+    net: u16,
+    inside: bool,
+)
+    requires { ⌜ (count ≤ length (now seen)) × (count ≤ length (now map)) × (count ≤ 16384) ⌝ }
+    ensures { λ _. ⌜ ((v : ℕ) → v < count → getD (now (seen .exit)) v 0
+        ≡ seenByte (not (eqb (getD (now (marks .entry)) v 0) 0)) (takenCode net (getD (now (map .entry)) v 0)) (not inside)) ⌝ }
+{
+    for v in 0..count {
+        seen[v] = byte_of(marks[v], map[v], net, inside);
+    }
+}
+
+// The end of a span's numbers that are below a size: a box may reach past the grid.
+fn end_below(span: Span, size: usize) -> usize
+    ensures { λ r. ⌜ (r ≤ size) × ((x : ℕ) → x < r → x ≤ span .high) × ((x : ℕ) → x < size → x ≤ span .high → x < r) ⌝ }
+{
+    if span.high < size {
+        span.high + 1
+    } else {
+        size
+    }
+}
+
+// A box's vertices on one row are inside the guide. OUTSIDE is the highest flag: the remainder keeps the others.
+fn guide_row(seen: &mut [u8], grid: Grid, layer: usize, row: usize, columns: Span)
+    requires { ⌜ (Sized grid) × (vertices (gridOf grid) ≤ length (now seen)) × (layer < grid .layers) × (row < grid .rows) ⌝ }
+    ensures { λ _. ⌜ GuidedWhere (gridOf grid) (inRow layer row (columns .low) (columns .high)) (now (seen .entry)) (now (seen .exit)) ⌝ }
+{
+    let first = grid.number(Vertex {
+        layer,
+        row,
+        column: 0,
+    });
+    let end = end_below(columns, grid.columns);
+    for column in columns.low..end {
+        seen[first + column] = seen[first + column] % OUTSIDE;
+    }
+}
+
+// A box's vertices on one layer are inside the guide.
+fn guide_layer(seen: &mut [u8], grid: Grid, layer: usize, guide: Box)
+    requires { ⌜ (Sized grid) × (vertices (gridOf grid) ≤ length (now seen)) × (layer < grid .layers) ⌝ }
+    ensures { λ _. ⌜ GuidedWhere (gridOf grid) (inLayer layer (boxOf guide)) (now (seen .entry)) (now (seen .exit)) ⌝ }
+{
+    let end = end_below(guide.rows, grid.rows);
+    for row in guide.rows.low..end {
+        guide_row(seen, grid, layer, row, guide.columns);
+    }
+}
+
+// A box's vertices are inside the guide.
+fn guide_box(seen: &mut [u8], grid: Grid, guide: Box)
+    requires { ⌜ (Sized grid) × (vertices (gridOf grid) ≤ length (now seen)) ⌝ }
+    ensures { λ _. ⌜ GuidedWhere (gridOf grid) (λ w. inBox w (boxOf guide)) (now (seen .entry)) (now (seen .exit)) ⌝ }
+{
+    let end = end_below(guide.layers, grid.layers);
+    for layer in guide.layers.low..end {
+        guide_layer(seen, grid, layer, guide);
+    }
+}
+
+// Every net's pins are blocked. No boxes: the whole grid is inside the guide.
 fn see_grid(
     seen: &mut [u8],
     marks: &[u8; 16384],
@@ -56,10 +125,9 @@ fn see_grid(
     ensures { λ _. ⌜ ((v : ℕ) → v < vertices (gridOf grid) → getD (now (seen .exit)) v 0
         ≡ sightOf (gridOf grid) (now (marks .entry)) (now (map .entry)) (boxesIn (now (boxes .entry)) 0 count) net v) ⌝ }
 {
-    let vertices = grid.vertices();
-    for v in 0..vertices {
-        let inside = in_guide(boxes, count, vertex_by(grid, v));
-        seen[v] = byte_of(marks[v], map[v], net, inside);
+    see_marks(seen, marks, map, grid.vertices(), net, count == 0);
+    for i in 0..count {
+        guide_box(seen, grid, box_in(boxes, 6 * i));
     }
 }
 

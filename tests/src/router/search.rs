@@ -35,6 +35,7 @@ pub struct Search<'a> {
     on_cheapest: Vec<bool>,
     reached: Vec<u32>,
     heap: BinaryHeap<Reverse<u64>>,
+    settled: u64,
 }
 
 impl<'a> Search<'a> {
@@ -49,7 +50,14 @@ impl<'a> Search<'a> {
             on_cheapest: vec![false; places],
             reached: Vec::new(),
             heap: BinaryHeap::new(),
+            settled: 0,
         }
+    }
+
+    /// How many places were settled in all: for each join those that cost less than
+    /// it, and all that can be reached where there is none.
+    pub fn settled(&self) -> u64 {
+        self.settled
     }
 
     /// "The cheapest is taken; among equals the lowest start vertex, then the
@@ -94,21 +102,28 @@ impl<'a> Search<'a> {
         self.heap.push(Reverse(cost << PLACE_BITS | number as u64));
     }
 
-    /// The cost of the cheapest join. No route goes on from an unjoined pin.
+    /// The cost of the cheapest join. No route goes on from an unjoined pin. `last` is
+    /// the greatest cost so far, and how many places were settled before it.
     fn reach_a_pin(&mut self, net: &NetAtHand) -> Option<u64> {
         for vertex in net.tree() {
             self.reach(self.number(Place::start(*vertex)), 0);
         }
+        let mut last = (0, 0);
         while let Some(Reverse(entry)) = self.heap.pop() {
             let cost = entry >> PLACE_BITS;
             let number = (entry & ((1 << PLACE_BITS) - 1)) as usize;
             if cost > self.cost[number] {
                 continue;
             }
+            if cost > last.0 {
+                last = (cost, self.settled);
+            }
             let from = self.numbered(number);
             if net.unjoined(from.vertex) {
+                self.settled = last.1;
                 return Some(cost);
             }
+            self.settled += 1;
             for by in Move::ALL {
                 if let Ok(step) = net.view.step(from, by) {
                     self.reach(self.number(step.to), cost + step.cost());

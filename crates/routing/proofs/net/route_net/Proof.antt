@@ -4,7 +4,7 @@ use Rattle.routing.proofs.net.route_net.Statement.{statement}
 use Rattle.routing.proofs.net.route_net.Tie as tie
 
 begin-tree-requires : tie.Need-begin-tree-requires
-begin-tree-requires c κs = c .before .before .before .before .pre .4
+begin-tree-requires c κs = c .before .before .before .before .pre .0 .3
 
 route-records-requires : tie.Need-route-records-requires
 route-records-requires c κs = c .before .before .before .before .before .before .before .before .before .pre

@@ -5,23 +5,30 @@ use mathlib.Core.List.{List}
 use native.Mathlib.Omega.{arith}
 use borrow.Author.Needs.{needs}
 use lib.ListN.{length}
+use Rattle.rules.specs.Structs.{techBy}
 use Rattle.walker.proofs.Nets.{nets-sized, nets-room, nets-kept, net-below, hand-held, pins-fit, boxes-few}
 use Rattle.routing.proofs.Netting.{Netting, netting-begun, netting-on, netting-done, fits-all, bounded-next}
 use Rattle.routing.proofs.nets.route_nets.Statement.{statement}
 use Rattle.routing.proofs.nets.route_nets.Tie as tie
 
 abbrev Inv-loop : tie.InvT-loop
-Inv-loop s tech marks map₀ largest work₀ plan₀ nets from seen₀ pins₀ boxes₀ place₀ bits₀ totals₀ net₀ left₀ map work plan seen pins boxes place bits totals net left =
+Inv-loop s tech marks map₀ largest work₀ plan₀ nets from seen₀ pins₀ boxes₀ place₀ bits₀ totals₀ net₀ left₀ rates ground lows₀ highs₀ map work plan seen pins boxes place bits totals net left lows highs =
     Netting s tech marks map₀ plan₀ map pins boxes plan place bits totals net left × (work ≡ work₀)
 
 abbrev μ-loop : tie.MeasureT-loop
-μ-loop s tech marks map₀ largest work₀ plan₀ nets from seen₀ pins₀ boxes₀ place₀ bits₀ totals₀ net₀ left₀ map work plan seen pins boxes place bits totals net left = left
+μ-loop s tech marks map₀ largest work₀ plan₀ nets from seen₀ pins₀ boxes₀ place₀ bits₀ totals₀ net₀ left₀ rates ground lows₀ highs₀ map work plan seen pins boxes place bits totals net left lows highs = left
 
 no-totals-requires : tie.Need-no-totals-requires Inv-loop μ-loop
 no-totals-requires c κs = search needs
 
+fill-rates-requires : tie.Need-fill-rates-requires Inv-loop μ-loop
+fill-rates-requires c κs = (c .before .before .before .before .before .before .pre) .1 .fits
+
+fill-ground-requires : tie.Need-fill-ground-requires Inv-loop μ-loop
+fill-ground-requires c κs = (c .before .before .before .before .before .before .before .before .pre) .1 .fits .sized
+
 loop-holds : tie.Need-loop-holds Inv-loop μ-loop
-loop-holds c = (netting-begun _ _ _ _ _ (c .before .before .before .before .before .pre .0) refl refl (c .no-totals .ensures), refl)
+loop-holds c = (netting-begun _ _ _ _ _ (c .before .before .before .before .before .before .before .before .before .pre .0) refl refl (c .before .before .before .before .no-totals .ensures), refl)
 
 load-net-requires : tie.Need-load-net-requires Inv-loop μ-loop
 load-net-requires c κs =
@@ -47,33 +54,39 @@ see-net-requires c κs =
       own .onGrid,
     )
 
+fill-runs-requires : tie.Need-fill-runs-requires Inv-loop μ-loop
+fill-runs-requires c κs = (c .before .before .before .before .before .before .before .before .before .before .before .before .before .before .before .before .before .before .before .before .before .before .pre) .1 .fits .sized
+
 route-net-requires : tie.Need-route-net-requires Inv-loop μ-loop
+unfolding techBy
 route-net-requires c κs =
-    let inv = c .before .before .before .before .before .before .before .before .before .before .before .before .before .before .loop .inv in
-    let pre = c .before .before .before .before .before .before .before .before .before .before .before .before .before .before .before .before .before .before .before .before .pre in
-    let some = c .before .before .before .before .before .before .before .before .before .before .before .before .before .loop-test .taken in
-    let loaded = c .before .before .before .before .before .before .before .before .before .before .load-net .ensures in (
-      pre .1,
-      rw (inv .1) (pre .2),
-      rw (inv .1) (pre .3),
-      nets-room _ _ _ _ _ (inv .0 .nets),
-      pins-fit _ _ _ _ _ (inv .0 .nets) some (loaded .0) (loaded .1 .0) (loaded .1 .1),
-      omega (arith, net-below _ _ _ _ _ (inv .0 .nets) some),
-      bounded-next _ _ _ _ _ (inv .0),
+    let inv = c .before .before .before .before .before .before .before .before .before .before .before .before .before .before .before .before .before .before .before .before .before .before .loop .inv in
+    let pre = c .before .before .before .before .before .before .before .before .before .before .before .before .before .before .before .before .before .before .before .before .before .before .before .before .before .before .before .before .before .before .before .before .pre in
+    let some = c .before .before .before .before .before .before .before .before .before .before .before .before .before .before .before .before .before .before .before .before .before .loop-test .taken in
+    let loaded = c .before .before .before .before .before .before .before .before .before .before .before .before .before .before .before .before .before .before .load-net .ensures in (
+      (
+        pre .1,
+        rw (inv .1) (pre .2),
+        nets-room _ _ _ _ _ (inv .0 .nets),
+        pins-fit _ _ _ _ _ (inv .0 .nets) some (loaded .0) (loaded .1 .0) (loaded .1 .1),
+        omega (arith, net-below _ _ _ _ _ (inv .0 .nets) some),
+        bounded-next _ _ _ _ _ (inv .0),
+      ),
+      record { prices = (c .before .before .before .before .before .before .before .before .before .before .before .before .before .before .before .before .before .before .before .before .before .before .before .before .before .fill-rates .ensures); places = (c .before .before .before .before .before .before .before .before .before .before .before .before .before .before .before .before .before .before .before .before .before .before .before .fill-ground .ensures); low = (c .before .before .before .before .before .before .before .before .before .fill-runs .ensures) .0; high = (c .before .before .before .before .before .before .before .before .before .fill-runs .ensures) .1 },
     )
 
 sub-left : tie.Need-sub-left Inv-loop μ-loop
-sub-left c = omega (arith, c .before .before .before .before .before .before .before .before .before .before .before .before .before .before .before .before .before .before .before .before .before .loop-test .taken)
+sub-left c = omega (arith, c .before .before .before .before .before .before .before .before .before .before .before .before .before .before .before .before .before .before .before .before .before .before .before .before .before .before .before .before .before .loop-test .taken)
 
 loop-less : tie.Need-loop-less Inv-loop μ-loop
-loop-less c = omega (arith, c .before .before .before .before .before .before .before .before .before .before .before .before .before .before .before .before .before .before .before .before .before .loop-test .taken)
+loop-less c = omega (arith, c .before .before .before .before .before .before .before .before .before .before .before .before .before .before .before .before .before .before .before .before .before .before .before .before .before .before .before .before .before .loop-test .taken)
 
 loop-again : tie.Need-loop-again Inv-loop μ-loop
 loop-again c =
-    let inv = c .before .before .before .before .before .before .before .before .before .before .before .before .before .before .before .before .before .before .before .before .before .before .loop .inv in
-    let loaded = c .before .before .before .before .before .before .before .before .before .before .before .before .before .before .before .before .before .before .load-net .ensures in
+    let inv = c .before .before .before .before .before .before .before .before .before .before .before .before .before .before .before .before .before .before .before .before .before .before .before .before .before .before .before .before .before .before .loop .inv in
+    let loaded = c .before .before .before .before .before .before .before .before .before .before .before .before .before .before .before .before .before .before .before .before .before .before .before .before .before .before .load-net .ensures in
     let (answer, (fits, work)) = c .before .before .before .before .before .before .before .route-net .ensures in (
-      netting-on _ _ _ _ _ (inv .0) (c .before .before .before .before .before .before .before .before .before .before .before .before .before .before .before .before .before .before .before .before .before .loop-test .taken) (loaded .0) (loaded .1 .0) (loaded .1 .1) _ (c .before .before .before .before .before .before .before .before .before .before .before .before .before .see-net .ensures) _ answer fits (c .before .before .plan .given),
+      netting-on _ _ _ _ _ (inv .0) (c .before .before .before .before .before .before .before .before .before .before .before .before .before .before .before .before .before .before .before .before .before .before .before .before .before .before .before .before .before .loop-test .taken) (loaded .0) (loaded .1 .0) (loaded .1 .1) _ (c .before .before .before .before .before .before .before .before .before .before .before .before .before .before .before .before .before .before .before .before .before .see-net .ensures) _ answer fits (c .before .before .plan .given),
       work ∙ inv .1,
     )
 
@@ -93,5 +106,5 @@ returns c =
 
 pub route-nets-spec : {M : Type 1} → statement M
 route-nets-spec =
-    tie.close (tie.spec Inv-loop μ-loop no-totals-requires loop-holds load-net-requires add-net see-net-requires route-net-requires sub-left loop-less
+    tie.close (tie.spec Inv-loop μ-loop no-totals-requires fill-rates-requires fill-ground-requires loop-holds load-net-requires add-net see-net-requires fill-runs-requires route-net-requires sub-left loop-less
     loop-again same-length same-length-2 same-length-3 returns)

@@ -21,7 +21,6 @@ route-nets-requires c κs =
       nets-held _ _ _ _ _ _ (pre .0) (count-zeroed _ (c .before .before .before .before .before .before .before .before .before .before .before .vertices .ensures) (c .before .before .before .before .before .before .before .before .before .zero-codes .ensures)) (c .before .before .before .before .before .lay-all-pins .ensures .0) (c .before .before .before .before .before .lay-all-pins .ensures .1),
       pre .1,
       pre .2,
-      pre .3,
     )
 
 put-obstacles-requires : tie.Need-put-obstacles-requires

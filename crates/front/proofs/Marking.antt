@@ -1,0 +1,681 @@
+-- The places of cheapest joins get marks, from the last settled place to the first.
+--     none-entered, one-entered, one-lit                the vertex that a move enters is lit
+--     lit-stays, lit-long                               and those that were stay so
+--     Lighting, lighting-begun, -on, -done              the neighbours of a vertex, one after the other
+--     item-place, -vertex, -key, -lowest                the place of a number, and the lowest move that leads on from it
+--     asked-not, asked-marked                           it is asked
+--     Marking, marking-begun, marking-on                so many settled places are not asked
+--     marking-fits, marking-read, marking-asked         the next of them
+--     marking-charted, -lowest, -kept                   all are asked
+use Prim.Native.Nat.{ℕ, zero, suc, _+_, _-_, _*_, _/_, _^_, _≤_, _<_}
+use mathlib.Core.Path.{_≡_, refl, sym, ap, subst, _∙_}
+use mathlib.Core.Logic.{_⊎_, inl, inr}
+use mathlib.Core.List.{List}
+use mathlib.Core.Bool.{Bool, true, false, cond, true≢false}
+use native.Mathlib.Omega.{arith}
+use native.Mathlib.Decide.{ℕ-discrete, decLt}
+use lib.ListN.{length, getD, set, length-set}
+use lib.Dec.{eqb}
+use lib.Seq.{getD-set-same, getD-set-other}
+use borrow.Author.Tests.{eqb-true, eq-eqb, lt-ltb}
+use Rattle.job.specs.Grid.{Grid, vertices}
+use Rattle.job.specs.Structs.{Sized, gridOf}
+use Rattle.job.specs.declared.grid.Grid.{Grid as GridStruct}
+use Rattle.paths.specs.Systems.{System, Legal}
+use Rattle.paths.specs.Distances.{Cost, fin, lowestFrom}
+use Rattle.paths.specs.Starts.{Starts}
+use Rattle.paths.specs.Forward.{From, starts, goes, Forward}
+use Rattle.paths.specs.Marks.{Leads, ends, goesOn, Marks, isLead, lowestLead, isMarked, markedStart}
+use Rattle.paths.proofs.Lowest.{lowest-here, lowest-next, lowest-passes, lowest-is}
+use Rattle.paths.proofs.Marks.{leads-map, leads-known, test-leads, leads-test}
+use Rattle.rules.specs.Tracks.{outside, at, entered}
+use Rattle.rules.specs.Structs.{enteredOf, techBy, placeOf}
+use Rattle.rules.specs.declared.price.Tech.{Tech as TechStruct}
+use Rattle.rules.specs.declared.step.Place.{Place as PlaceStruct}
+use Rattle.rules.specs.declared.track.Entered.{Entered as EnteredEnum}
+use Rattle.rules.specs.declared.track.Entered.the-variants.{Outside, At}
+use Rattle.rules.proofs.Fitting.{entered-outside, entered-at}
+use Rattle.rules.specs.Views.{View}
+use Rattle.rules.specs.Segments.{Place}
+use Rattle.rules.specs.Prices.{Tech}
+use Rattle.rules.specs.Joins.{places}
+use Rattle.rules.specs.Walks.{startAt}
+use Rattle.rules.specs.Places.{placeCode, placeAt, entryCost, GoodPlace, GoodTech}
+use Rattle.rules.proofs.Neighbours.{entered-below, entered-back}
+use Rattle.rules.proofs.Places.{code-below, start-good, places-small}
+use Rattle.rules.proofs.Segments.{move-led}
+use Rattle.rules.proofs.Moves.{step-parts}
+use Rattle.heap.specs.Heaps.{keyOf, slotOf, wordOf, In}
+use Rattle.heap.proofs.Words.{open-or-not}
+use Rattle.metal.specs.Codes.{Beyond}
+use Rattle.metal.proofs.Slices.{beyond-by}
+use Rattle.front.specs.Fronts.{systemBy, startsBy, reachedBy, markBy, bestBy, Searched}
+use Rattle.front.specs.Lists.{listAt, Done, Laid}
+use Rattle.front.specs.Spreads.{keys, Ended}
+use Rattle.front.specs.Leads.{lowestBy, Asked}
+use Rattle.front.specs.Charts.{Charted, lowestMarked}
+use Rattle.front.proofs.Numbers.{place-good, code-place}
+use Rattle.front.proofs.Asking.{item-code}
+use Rattle.front.proofs.Lawful.{lawful-by, starts-good}
+use Rattle.front.proofs.Laying.{at-list, laid-room, mark-keys, mark-slot, laid-mark}
+use Rattle.front.proofs.Spreading.{cost-key, spread-forward}
+
+-- ---- the neighbours of a vertex
+
+module _ {grid : GridStruct} {v : ℕ} (number : ℕ) (sized : Sized grid) (below : v < vertices (gridOf grid)) {r : EnteredEnum}
+    (is : r ≡ enteredOf (entered (gridOf grid) v number)) where
+  -- a move out of the grid enters no vertex
+  pub none-entered : r ≡ Outside → (w : ℕ) → entered (gridOf grid) v number ≡ at w → ⊥
+  none-entered off w e = apart (sym (entered-outside _ (sym is ∙ off)) ∙ e)
+    where
+      apart : outside ≡ at w → ⊥
+      apart f = let z : _≡_ {A = ℕ} 0 1 = cc in omega arith
+
+  module _ {u : ℕ} (into : r ≡ At u) where
+    -- a vertex that is entered has a byte
+    pub one-entered : u < 16384
+    one-entered = omega (arith, entered-below (gridOf grid) number below (entered-at _ (sym is ∙ into)), sized .vertices)
+
+    module _ (near : List ℕ) (long : length near ≡ 16384) where
+      -- with the byte set it is lit
+      here-lit : getD (set near u 1) u 0 ≡ 1
+      here-lit = getD-set-same near u 1 0 (omega (arith, one-entered))
+
+      pub one-lit : (w : ℕ) → entered (gridOf grid) v number ≡ at w → getD (set near u 1) w 0 ≡ 1
+      one-lit w e = rw (same (sym e ∙ entered-at _ (sym is ∙ into))) here-lit
+        where
+          same : {a b : ℕ} → at a ≡ at b → a ≡ b
+          same f = cc
+
+      -- and those that were lit stay so
+      pub lit-stays : (w : ℕ) → getD near w 0 ≡ 1 → getD (set near u 1) w 0 ≡ 1
+      lit-stays w on = by (ℕ-discrete w u)
+        where
+          by : Dec (w ≡ u) → getD (set near u 1) w 0 ≡ 1
+          by (yes e) = rw e here-lit
+          by (no e) = getD-set-other near u w 1 0 e ∙ on
+
+      pub lit-long : length (set near u 1) ≡ 16384
+      lit-long = length-set near u 1 ∙ long
+
+module _ (g : Grid) (v : ℕ) (near₀ : List ℕ) where
+  -- what so many moves enter is lit
+  pub record Lighting (near : List ℕ) (number : ℕ) : Type 0 where
+    pub few : number ≤ 4
+    pub lit : (m u : ℕ) → m < number → entered g v m ≡ at u → getD near u 0 ≡ 1
+    pub stays : (u : ℕ) → getD near₀ u 0 ≡ 1 → getD near u 0 ≡ 1
+    pub bytes : length near ≡ 16384
+
+  pub lighting-begun : length near₀ ≡ 16384 → Lighting near₀ 0
+  lighting-begun long = record { few = omega arith; lit = λ m u h. absurd (omega arith); stays = λ u is. is; bytes = long }
+
+  module _ {near : List ℕ} {number : ℕ} (so-far : Lighting near number) where
+    -- one more
+    pub lighting-on : {after : List ℕ} → number < 4 → ((u : ℕ) → entered g v number ≡ at u → getD after u 0 ≡ 1)
+        → ((u : ℕ) → getD near u 0 ≡ 1 → getD after u 0 ≡ 1) → length after ≡ 16384 → Lighting after (number + 1)
+    lighting-on {after} h lit stays long =
+        record {
+          few = omega arith;
+          lit = λ m u below e. by m u below e (ℕ-discrete m number);
+          stays = λ u is. stays u (so-far .stays u is);
+          bytes = long;
+        }
+      where
+        by : (m u : ℕ) → m < number + 1 → entered g v m ≡ at u → Dec (m ≡ number) → getD after u 0 ≡ 1
+        by m u below e (yes is) = lit u (rw is at e)
+        by m u below e (no is) = stays u (so-far .lit m u (omega arith) e)
+
+    -- all: from each vertex that a move leads here from, a move leads back
+    pub lighting-done : 4 ≤ number → (u m : ℕ) → u < vertices g → entered g u m ≡ at v → getD near u 0 ≡ 1
+    lighting-done all u m below e = let (k, less, back) = entered-back g m below e in so-far .lit k u (omega arith) back
+
+-- ---- one place, in the code's words
+
+module _ {tech : TechStruct} {largest : ℕ} (held : Searched tech largest) {item : ℕ} (known : item < places (techBy tech)) where
+  -- the place is good, and has that number
+  pub item-place : GoodPlace (techBy tech) (placeAt largest item) × (placeCode (techBy tech) (placeAt largest item) ≡ item)
+  item-place = rw (held .is) (place-good (held .fits .good) known, code-place (held .fits .good) known)
+
+  -- the vertex of the place of a number is one of the grid
+  pub item-vertex : item / (2 * (largest + 1)) < vertices (gridOf (tech .grid))
+  unfolding placeAt techBy
+  item-vertex = item-place .0 .vertex
+
+  module _ (place : PlaceStruct) (is : placeOf place ≡ placeAt largest item) (work : List ℕ) where
+    -- the key of that place is the entry's
+    pub item-key : keys work (placeCode (techBy tech) (placeOf place)) ≡ keys work item
+    item-key = ap (keys work) (item-code held known place is)
+
+    -- the lowest move from it that leads on
+    pub item-lowest : (view : View) (spots : List ℕ) (best : ℕ) {r : ℕ} → ((e : ℕ) → keys work (placeCode (techBy tech) (placeOf place)) ≡ suc e → r ≡ lowestBy (techBy tech) view spots work best (placeOf place) e)
+        → (e : ℕ) → keys work item ≡ suc e → r ≡ lowestBy (techBy tech) view spots work best (placeAt largest item) e
+    item-lowest view spots best told e from = told e (item-key ∙ from) ∙ ap (λ (p : Place). lowestBy (techBy tech) view spots work best p e) is
+
+module _ {t : Tech} {view : View} {spots : List ℕ} {best item : ℕ} {p : Place} {near work : List ℕ} where
+  -- no move leads on, or the vertex is not lit
+  pub asked-not : length near ≡ 16384 → (getD near (p .vertex) 0 ≡ 1 → (e : ℕ) → keys work item ≡ suc e → 4 ≤ lowestBy t view spots work best p e)
+      → Asked t view spots best item p near work near work false
+  asked-not long none =
+      record {
+        left = λ not. (refl, refl);
+        none = λ not. none;
+        marks = λ is. absurd (true≢false (sym is));
+        leads = λ is. absurd (true≢false (sym is));
+        lit = λ is. absurd (true≢false (sym is));
+        stays = λ u on. on;
+        bytes = long;
+      }
+
+  -- a move does
+  pub asked-marked : {lights after : List ℕ} → ((e : ℕ) → keys work item ≡ suc e → lowestBy t view spots work best p e < 4)
+      → after ≡ set work item (wordOf (keyOf (getD work item 0)) 1048574)
+      → ((u m : ℕ) → u < vertices (t .grid) → entered (t .grid) u m ≡ at (p .vertex) → getD lights u 0 ≡ 1)
+      → ((u : ℕ) → getD near u 0 ≡ 1 → getD lights u 0 ≡ 1) → length lights ≡ 16384 → Asked t view spots best item p near work lights after true
+  asked-marked leads marks lit stays long =
+      record {
+        left = λ not. absurd (true≢false not);
+        none = λ not. absurd (true≢false not);
+        marks = λ is. marks;
+        leads = λ is. leads;
+        lit = λ is. lit;
+        stays = stays;
+        bytes = long;
+      }
+
+-- ---- the lowest of some numbers
+
+module _ (test : ℕ → Bool) where
+  -- where it is one of them it passes
+  lowest-one : (m n : ℕ) → lowestFrom test m n < m + n → test (lowestFrom test m n) ≡ true
+  unfolding lowestFrom
+  lowest-one m zero h = absurd (omega arith)
+  lowest-one m (suc n) h = by (test m) refl (lowest-one (suc m) n)
+    where
+      by : (b : Bool) → test m ≡ b → (lowestFrom test (suc m) n < suc m + n → test (lowestFrom test (suc m) n) ≡ true)
+          → test (lowestFrom test m (suc n)) ≡ true
+      by true e again = rw (lowest-here test m n e) e
+      by false e again = rw (lowest-next test m n e) (again (omega (arith, h, lowest-next test m n e)))
+
+  -- where none passes it is past them
+  lowest-none : (m n : ℕ) → ((j : ℕ) → j < m + n → test j ≡ false) → lowestFrom test m n ≡ m + n
+  unfolding lowestFrom
+  lowest-none m zero none = omega arith
+  lowest-none m (suc n) none = lowest-next test m n (none m (omega arith)) ∙ lowest-none (suc m) n (λ j h. none j (omega arith)) ∙ omega arith
+
+-- ---- marks and moves, by the entries
+
+module _ (t : Tech) (work : List ℕ) (p : Place) where
+  -- a place has a mark just where its slot says so
+  mark-told : markBy t work p ≡ true → slotOf (getD work (placeCode t p) 0) ≡ 1048574
+  unfolding markBy
+  mark-told is = eqb-true _ 1048574 is
+
+  told-mark : slotOf (getD work (placeCode t p) 0) ≡ 1048574 → markBy t work p ≡ true
+  unfolding markBy
+  told-mark is = eq-eqb _ 1048574 is
+
+  -- and a cost where its key does
+  cost-told : {e : ℕ} → reachedBy t work p ≡ fin e → keys work (placeCode t p) ≡ suc e
+  unfolding reachedBy
+  cost-told is = cost-key _ is
+
+-- entries with the same keys tell the same costs
+same-costs : (t : Tech) (work found : List ℕ) → ((c : ℕ) → keys work c ≡ keys found c) → reachedBy t work ≡ reachedBy t found
+unfolding reachedBy
+same-costs t work found same = λ i p. entryCost (same (placeCode t p) i)
+
+module _ (t : Tech) (view : View) (spots work : List ℕ) (best : ℕ) (p : Place) (e : ℕ) where
+  abbrev Leading : ℕ → Type 0
+  Leading m = Leads (systemBy t view spots) (reachedBy t work) best (λ q. markBy t work q ≡ true) p e m
+
+  -- the lowest move that leads on is one of the four just where one leads on
+  lead-some : lowestBy t view spots work best p e < 4 → (m : ℕ) × Leading m
+  unfolding lowestLead
+  lead-some h =
+      let test : ℕ → Bool = λ m. isLead (systemBy t view spots) (reachedBy t work) best (markBy t work) e (systemBy t view spots .step p m) in
+      (lowestFrom test 0 4, test-leads h (lowest-one test 0 4 h))
+
+  lead-none : 4 ≤ lowestBy t view spots work best p e → {m : ℕ} → Leading m → ⊥
+  unfolding lowestLead
+  lead-none h {m} lead =
+      let test : ℕ → Bool = λ m. isLead (systemBy t view spots) (reachedBy t work) best (markBy t work) e (systemBy t view spots .step p m) in
+      let (up, pass) = lowest-passes test 0 4 m (omega arith) (leads-known lead) (leads-test lead) in
+      omega (arith, leads-known lead)
+
+-- ---- so many settled places are not asked
+
+module _ (t : Tech) (view : View) (spots work₀ : List ℕ) (settled best : ℕ) where
+  abbrev S : System
+  S = systemBy t view spots
+
+  abbrev X : Starts S
+  X = startsBy t view spots
+
+  -- the cost to each place
+  abbrev E : Place → Cost
+  E = reachedBy t work₀
+
+  -- a move leads to a goal at the best cost, or on to a mark
+  abbrev Lead : (work : List ℕ) → Place → (e m : ℕ) → Type 0
+  Lead work p e m = Leads S E best (λ q. markBy t work q ≡ true) p e m
+
+  -- the others have marks just where a move leads on; from a vertex that is not lit none does; and of the starts with marks the lowest is known
+  pub record Marking (near work : List ℕ) (left start : ℕ) : Type 0 where
+    pub few : left ≤ settled
+    pub long : length work ≡ length work₀
+    pub same : (c : ℕ) → keys work c ≡ keys work₀ c
+    pub rest : (j : ℕ) → places t ≤ j → getD work j 0 ≡ getD work₀ j 0
+    pub laid : (size last : ℕ) → Laid (places t) size settled last work₀ → Laid (places t) size settled last work
+    pub within : {p : Place} {e : ℕ} → GoodPlace t p → E p ≡ fin e → markBy t work p ≡ true → e ≤ best
+    pub leads : {p : Place} {e : ℕ} → GoodPlace t p → E p ≡ fin e → markBy t work p ≡ true → (m : ℕ) × Lead work p e m
+    pub made : (i : ℕ) → left ≤ i → i < settled → {p : Place} {e m : ℕ} → GoodPlace t p → placeCode t p ≡ listAt (places t) work₀ i → E p ≡ fin e
+        → Lead work p e m → markBy t work p ≡ true
+    pub goals : {p q : Place} {m c : ℕ} → GoodPlace t p → Done (places t) work₀ (placeCode t p) → Legal S p m c q → eqb (getD spots (q .vertex) 0) 2 ≡ true
+        → getD near (p .vertex) 0 ≡ 1
+    pub lit : {p q : Place} {m c : ℕ} → GoodPlace t p → Legal S p m c q → markBy t work q ≡ true → getD near (p .vertex) 0 ≡ 1
+    pub bytes : length near ≡ 16384
+    pub top : start ≤ vertices (t .grid)
+    pub lower : (v : ℕ) → v < start → isMarked X (markBy t work) v ≡ false
+    pub there : start < vertices (t .grid) → isMarked X (markBy t work) start ≡ true
+
+  -- ---- before the first
+
+  module _ (fine : GoodTech t) {near₀ : List ℕ} {size : ℕ} (ended : Ended t view spots near₀ work₀ size settled best) where
+    -- no place has a mark
+    no-mark : (c : ℕ) → c < places t → slotOf (getD work₀ c 0) ≡ 1048574 → ⊥
+    unfolding slotOf
+    no-mark c h is = by (decLt 0 (keys work₀ c)) (open-or-not (places t) (getD work₀ c 0))
+      where
+        laid : Laid (places t) size settled (ended .between .last) work₀
+        laid = ended .between .laid
+
+        by : Dec (0 < keys work₀ c) → Dec (In work₀ (places t) c) → ⊥
+        by (no none) o = let key : keys work₀ c ≡ 0 = omega arith in omega (arith, laid .bare c h key, is)
+        by (yes touched) (yes o) = omega (arith, is, o .placed, laid .heaped .seated .few)
+        by (yes touched) (no o) = omega (arith, is, ended .between .plain c h (record { touched = touched; out = o }))
+
+    pub marking-begun : Marking near₀ work₀ settled (vertices (t .grid))
+    marking-begun =
+        record {
+          few = omega arith;
+          long = refl;
+          same = λ c. refl;
+          rest = λ j h. refl;
+          laid = λ size last l. l;
+          within = λ good at is. absurd (unmarked good is);
+          leads = λ good at is. absurd (unmarked good is);
+          made = λ i h k. absurd (omega arith);
+          goals = λ good done legal g. ended .between .spread .lit good done (λ f. legal .known) legal g;
+          lit = λ good legal is. absurd (unmarked (lawful-by view spots fine .keeps good legal) is);
+          bytes = ended .between .bytes;
+          top = omega arith;
+          lower = λ v h. unstarted v h;
+          there = λ h. absurd (omega arith);
+        }
+      where
+        unmarked : {p : Place} → GoodPlace t p → markBy t work₀ p ≡ true → ⊥
+        unmarked {p} good is = no-mark (placeCode t p) (code-below good) (mark-told t work₀ p is)
+
+        unstarted : (v : ℕ) → v < vertices (t .grid) → isMarked X (markBy t work₀) v ≡ false
+        unstarted v h = by (X .isStart v) (markBy t work₀ (startAt v)) refl
+          where
+            by : (a b : Bool) → markBy t work₀ (startAt v) ≡ b → cond a b false ≡ false
+            by true true is = absurd (unmarked (start-good h) is)
+            by true false is = refl
+            by false b is = refl
+
+    -- ---- a place that costs nothing
+
+    -- the end of a walk is a good place
+    from-good : {p : Place} {e : ℕ} → From S X p e → GoodPlace t p
+    from-good (starts below is) = starts-good t view spots .good below is
+    from-good (goes from g legal) = lawful-by view spots fine .keeps (from-good from) legal
+
+    -- and a start where the walk costs nothing
+    from-start : {p : Place} {e : ℕ} → From S X p e → e ≡ 0 → (v : ℕ) × (v < vertices (t .grid)) × (X .isStart v ≡ true) × (p ≡ startAt v)
+    from-start (starts {v = v} below is) none = (v, below, is, refl)
+    from-start (goes from g legal) none = absurd (omega (arith, lawful-by view spots fine .costs (from-good from) legal))
+
+    -- a move enters the vertex of the place that it leads to
+    legal-enters : {p q : Place} {m c : ℕ} → GoodPlace t p → Legal S p m c q → entered (t .grid) (p .vertex) m ≡ at (q .vertex)
+    legal-enters {p} {q} {m} {c} good legal =
+        let went = step-parts t view p m (legal .leads) in
+        let led = move-led view p m (went .vertex) (went .enter) fine (good .vertex) (went .does) in
+        rw (led .vertex) (went .enters)
+
+    -- ---- one more
+
+    module _ {near work : List ℕ} {before start : ℕ} (so-far : Marking near work before start) (some-left : 0 < before) where
+      -- the next of the list
+      abbrev left : ℕ
+      left = before - 1
+
+      -- the list is in the slice
+      pub marking-fits : (left < places t) × (places t ≤ 524288) × (places t + places t ≤ length work)
+      marking-fits =
+          let laid = ended .between .laid in
+          (omega (arith, so-far .few, laid-room laid), omega (arith, places-small fine), omega (arith, so-far .long, laid .heaped .seated .room))
+
+      -- the place as it is read
+      pub marking-read : {n : ℕ} → n ≡ places t → listAt (places t) work₀ left ≡ getD work (n + n - 1 - left) 0
+      unfolding listAt
+      marking-read is = rw is (sym (so-far .rest (places t + places t - 1 - left) (omega (arith, marking-fits .0))))
+
+      -- what asking it needs
+      pub marking-asked : {item : ℕ} → listAt (places t) work₀ left ≡ item → (item < places t) × (0 < keys work item) × (keys work item ≤ 2 ^ 40)
+      marking-asked {item} is =
+          let laid = ended .between .laid in
+          let below : left < settled = omega (arith, so-far .few) in
+          let known : item < places t = rw (← is) (laid .listed left below) in
+          let done : Done (places t) work₀ item = rw (← is) (laid .done left below) in
+          (known, omega (arith, done .touched, so-far .same item), omega (arith, so-far .same item, laid .heaped .seated .small item known))
+
+      module _ {item : ℕ} (is-item : listAt (places t) work₀ left ≡ item) {here : Place} (on : GoodPlace t here) (is-here : placeCode t here ≡ item) where
+        laid₀ : Laid (places t) size settled (ended .between .last) work₀
+        laid₀ = ended .between .laid
+
+        now : Laid (places t) size settled (ended .between .last) work
+        now = so-far .laid size (ended .between .last) laid₀
+
+        more : left < settled
+        more = omega (arith, so-far .few)
+
+        known : item < places t
+        known = rw (← is-here) (code-below on)
+
+        done₀ : Done (places t) work₀ item
+        done₀ = rw (← is-item) (laid₀ .done left more)
+
+        done : Done (places t) work item
+        done =
+            let room = laid-room laid₀ in
+            let list = at-list (places t) work work₀ left (so-far .rest (places t + places t - 1 - left) (omega (arith, more))) in
+            rw (← is-item, ← list) (now .done left more)
+
+        -- the cost to the place
+        cost-here : {e : ℕ} → E here ≡ fin e → keys work item ≡ suc e
+        cost-here at-e = so-far .same item ∙ sym (ap (keys work₀) is-here) ∙ cost-told t work₀ here at-e
+
+        -- a good place with the item's number is this one
+        same-here : {p : Place} → GoodPlace t p → placeCode t p ≡ item → p ≡ here
+        same-here good e = lawful-by view spots fine .apart good on (e ∙ sym is-here)
+
+        -- what the entries say of a move, in the costs before the first mark
+        lead-was : {p : Place} {e m : ℕ} → Leads S (reachedBy t work) best (λ q. markBy t work q ≡ true) p e m → Lead work p e m
+        lead-was {p} {e} {m} lead =
+            subst (λ (D : Place → Cost). Leads S D best (λ q. markBy t work q ≡ true) p e m) (same-costs t work work₀ (so-far .same)) lead
+
+        lead-is : {p : Place} {e m : ℕ} → Lead work p e m → Leads S (reachedBy t work) best (λ q. markBy t work q ≡ true) p e m
+        lead-is {p} {e} {m} lead =
+            subst (λ (D : Place → Cost). Leads S D best (λ q. markBy t work q ≡ true) p e m) (sym (same-costs t work work₀ (so-far .same))) lead
+
+        -- where no move leads on
+        module _ (none : getD near (here .vertex) 0 ≡ 1 → (e : ℕ) → keys work item ≡ suc e → 4 ≤ lowestBy t view spots work best here e) where
+          -- one that did would start at a lit vertex
+          no-lead : {e m : ℕ} → E here ≡ fin e → Lead work here e m → ⊥
+          no-lead {e} at-e lead = lead-none t view spots work best here e (none (by lead) e (cost-here at-e)) (lead-is lead)
+            where
+              by : {e m : ℕ} → Lead work here e m → getD near (here .vertex) 0 ≡ 1
+              by (ends legal g sum) = so-far .goals on (rw is-here done₀) legal g
+              by (goesOn legal g at-q is) = so-far .lit on legal is
+
+          marking-none : Marking near work left start
+          marking-none =
+              record {
+                few = omega arith;
+                long = so-far .long;
+                same = so-far .same;
+                rest = so-far .rest;
+                laid = so-far .laid;
+                within = so-far .within;
+                leads = so-far .leads;
+                made = λ i h k good code at-e lead. by i h k good code at-e lead (ℕ-discrete i left);
+                goals = so-far .goals;
+                lit = so-far .lit;
+                bytes = so-far .bytes;
+                top = so-far .top;
+                lower = so-far .lower;
+                there = so-far .there;
+              }
+            where
+              by : (i : ℕ) → left ≤ i → i < settled → {p : Place} {e m : ℕ} → GoodPlace t p → placeCode t p ≡ listAt (places t) work₀ i → E p ≡ fin e
+                  → Lead work p e m → Dec (i ≡ left) → markBy t work p ≡ true
+              by i h k {p} {e} {m} good code at-e lead (no f) = so-far .made i (omega arith) k good code at-e lead
+              by i h k {p} {e} {m} good code at-e lead (yes f) =
+                  let same = same-here good (code ∙ ap (listAt (places t) work₀) f ∙ is-item) in
+                  absurd (no-lead (rw same at at-e) (subst (λ (x : Place). Lead work x e m) same lead))
+
+        -- where one does, the place gets a mark, and what leads to it is lit
+        module _ (some : (e : ℕ) → keys work item ≡ suc e → lowestBy t view spots work best here e < 4) where
+          abbrev marked : List ℕ
+          marked = set work item (wordOf (keyOf (getD work item 0)) 1048574)
+
+          marked-other : {d : ℕ} → (d ≡ item → ⊥) → getD marked d 0 ≡ getD work d 0
+          marked-other {d} e = getD-set-other work item d (wordOf (keyOf (getD work item 0)) 1048574) 0 e
+
+          -- this place has a mark now
+          mark-here : (q : Place) → placeCode t q ≡ item → markBy t marked q ≡ true
+          mark-here q e = told-mark t marked q (ap (λ d. slotOf (getD marked d 0)) e ∙ mark-slot now known done)
+
+          -- the others are as they were
+          mark-same : (q : Place) → (placeCode t q ≡ item → ⊥) → markBy t marked q ≡ markBy t work q
+          unfolding markBy
+          mark-same q e = ap (λ w. eqb (slotOf w) 1048574) (marked-other e)
+
+          mark-stays : (q : Place) → markBy t work q ≡ true → markBy t marked q ≡ true
+          mark-stays q is = by (ℕ-discrete (placeCode t q) item)
+            where
+              by : Dec (placeCode t q ≡ item) → markBy t marked q ≡ true
+              by (yes e) = mark-here q e
+              by (no e) = mark-same q e ∙ is
+
+          lead-stays : {p : Place} {e m : ℕ} → Lead work p e m → Lead marked p e m
+          lead-stays lead = leads-map lead (λ q c legal g at-q is. mark-stays q is)
+
+          -- a move leads on from here
+          lead-here : {p : Place} {e : ℕ} → GoodPlace t p → placeCode t p ≡ item → E p ≡ fin e → (m : ℕ) × Lead work p e m
+          lead-here {p} {e} good code at-e =
+              let same = same-here good code in
+              let (m, lead) = lead-some t view spots work best here e (some e (cost-here (rw same at at-e))) in
+              (m, subst (λ (x : Place). Lead work x e m) (sym same) (lead-was lead))
+
+          -- at no more than the best cost
+          lead-within : {p : Place} {e m : ℕ} → GoodPlace t p → Lead work p e m → e ≤ best
+          lead-within good (ends legal g sum) = omega arith
+          lead-within good (goesOn legal g at-q is) = omega (arith, so-far .within (lawful-by view spots fine .keeps good legal) at-q is)
+
+          -- what was asked before leads to none that costs as little as this one
+          lead-before : {i : ℕ} → left ≤ i → i < settled → {p : Place} {e m : ℕ} → GoodPlace t p → placeCode t p ≡ listAt (places t) work₀ i → E p ≡ fin e
+              → Lead marked p e m → Lead work p e m
+          lead-before {i} h k {p} {e} good code at-e lead = leads-map lead (λ q c legal g at-q is. sym (mark-same q (other q c legal at-q)) ∙ is)
+            where
+              other : (q : Place) (c : ℕ) {m : ℕ} → Legal S p m c q → E q ≡ fin (e + c) → placeCode t q ≡ item → ⊥
+              other q c legal at-q same =
+                  let far = ap (keys work₀) (sym (same ∙ sym is-item)) ∙ cost-told t work₀ q at-q in
+                  let near-by = ap (keys work₀) (sym code) ∙ cost-told t work₀ p at-e in
+                  omega (arith, laid₀ .rising left i h k, far, near-by, lawful-by view spots fine .costs good legal)
+
+          made-on : (i : ℕ) → left ≤ i → i < settled → {p : Place} {e m : ℕ} → GoodPlace t p → placeCode t p ≡ listAt (places t) work₀ i → E p ≡ fin e
+              → Lead marked p e m → markBy t marked p ≡ true
+          made-on i h k {p} {e} {m} good code at-e lead = by (ℕ-discrete i left)
+            where
+              by : Dec (i ≡ left) → markBy t marked p ≡ true
+              by (yes f) = mark-here p (code ∙ ap (listAt (places t) work₀) f ∙ is-item)
+              by (no f) = mark-stays p (so-far .made i (omega arith) k good code at-e (lead-before h k good code at-e lead))
+
+          within-on : {p : Place} {e : ℕ} → GoodPlace t p → E p ≡ fin e → markBy t marked p ≡ true → e ≤ best
+          within-on {p} {e} good at-e is = by (ℕ-discrete (placeCode t p) item)
+            where
+              by : Dec (placeCode t p ≡ item) → e ≤ best
+              by (yes f) = lead-within good (lead-here good f at-e .1)
+              by (no f) = so-far .within good at-e (sym (mark-same p f) ∙ is)
+
+          leads-on : {p : Place} {e : ℕ} → GoodPlace t p → E p ≡ fin e → markBy t marked p ≡ true → (m : ℕ) × Lead marked p e m
+          leads-on {p} {e} good at-e is = by (ℕ-discrete (placeCode t p) item)
+            where
+              by : Dec (placeCode t p ≡ item) → (m : ℕ) × Lead marked p e m
+              by (yes f) = let (m, lead) = lead-here good f at-e in (m, lead-stays lead)
+              by (no f) = let (m, lead) = so-far .leads good at-e (sym (mark-same p f) ∙ is) in (m, lead-stays lead)
+
+          -- a start that is not this place has a mark just where it had one
+          start-same : (v : ℕ) → (X .isStart v ≡ true → placeCode t (startAt v) ≡ item → ⊥)
+              → isMarked X (markBy t marked) v ≡ isMarked X (markBy t work) v
+          start-same v other = by (X .isStart v) refl
+            where
+              by : (b : Bool) → X .isStart v ≡ b → isMarked X (markBy t marked) v ≡ isMarked X (markBy t work) v
+              by true is = rw is (mark-same (startAt v) (other is))
+              by false is = rw is refl
+
+          -- ---- its neighbours are lit, and the lowest start is known
+
+          module _ (lights : List ℕ) (shines : (u m : ℕ) → u < vertices (t .grid) → entered (t .grid) u m ≡ at (here .vertex) → getD lights u 0 ≡ 1)
+              (stays : (u : ℕ) → getD near u 0 ≡ 1 → getD lights u 0 ≡ 1) (bytes : length lights ≡ 16384) where
+            lit-on : {p q : Place} {m c : ℕ} → GoodPlace t p → Legal S p m c q → markBy t marked q ≡ true → getD lights (p .vertex) 0 ≡ 1
+            lit-on {p} {q} {m} good legal is = by (ℕ-discrete (placeCode t q) item)
+              where
+                by : Dec (placeCode t q ≡ item) → getD lights (p .vertex) 0 ≡ 1
+                by (yes f) =
+                    let same = same-here (lawful-by view spots fine .keeps good legal) f in
+                    shines (p .vertex) m (good .vertex) (legal-enters good legal ∙ ap (λ (x : Place). at (x .vertex)) same)
+                by (no f) = stays (p .vertex) (so-far .lit good legal (sym (mark-same q f) ∙ is))
+
+            -- with the lowest start that has a mark
+            marking-with : {first : ℕ} → first ≤ vertices (t .grid) → ((v : ℕ) → v < first → isMarked X (markBy t marked) v ≡ false)
+                → (first < vertices (t .grid) → isMarked X (markBy t marked) first ≡ true) → Marking lights marked left first
+            marking-with top lower there =
+                record {
+                  few = omega (arith, more);
+                  long = length-set work item _ ∙ so-far .long;
+                  same = λ d. mark-keys now known done d ∙ so-far .same d;
+                  rest = λ j h. marked-other (λ e. omega (arith, known)) ∙ so-far .rest j h;
+                  laid = λ size last l. laid-mark (so-far .laid size last l) known done;
+                  within = within-on;
+                  leads = leads-on;
+                  made = λ i h k good code at-e lead. made-on i h k good code at-e lead;
+                  goals = λ {p} good d legal g. stays (p .vertex) (so-far .goals good d legal g);
+                  lit = lit-on;
+                  bytes = bytes;
+                  top = top;
+                  lower = lower;
+                  there = there;
+                }
+
+            -- a place that costs something is no start
+            marking-inner : (keys work item ≡ 1 → ⊥) → Marking lights marked left start
+            marking-inner costs =
+                marking-with (so-far .top) (λ v h. start-same v (other v (omega (arith, so-far .top))) ∙ so-far .lower v h)
+                (λ h. start-same start (other start h) ∙ so-far .there h)
+              where
+                other : (v : ℕ) → v < vertices (t .grid) → X .isStart v ≡ true → placeCode t (startAt v) ≡ item → ⊥
+                other v h is code =
+                    costs (so-far .same item ∙ sym (ap (keys work₀) code) ∙ ended .between .spread .starts v h (eqb-true (getD spots v 0) 1 is))
+
+            -- one that costs nothing is
+            marking-start : keys work item ≡ 1 → {first : ℕ} → first ≡ start - (start - here .vertex) → Marking lights marked left first
+            unfolding startAt
+            marking-start costs {first} lesser = by (ended .between .spread .reached on (ap (keys work₀) is-here ∙ sym (so-far .same item) ∙ costs))
+              where
+                at-start : (w : ℕ) → w < vertices (t .grid) → X .isStart w ≡ true → here ≡ startAt w → Marking lights marked left first
+                at-start w below is start-is =
+                    marking-with (omega (arith, so-far .top)) (λ v h. start-same v (other v (omega (arith, so-far .top)) (omega (arith, vertex))) ∙ so-far .lower v (omega arith))
+                    (λ h. which (decLt w start) h)
+                  where
+                    vertex : here .vertex ≡ w
+                    vertex = ap (λ (x : Place). x .vertex) start-is
+
+                    other : (v : ℕ) → v < vertices (t .grid) → (v ≡ w → ⊥) → X .isStart v ≡ true → placeCode t (startAt v) ≡ item → ⊥
+                    other v h apart also code = apart (ap (λ (x : Place). x .vertex) (same-here (start-good h) code) ∙ vertex)
+
+                    has : isMarked X (markBy t marked) w ≡ true
+                    has = rw is (mark-here (startAt w) (ap (placeCode t) (sym start-is) ∙ is-here))
+
+                    which : Dec (w < start) → first < vertices (t .grid) → isMarked X (markBy t marked) first ≡ true
+                    which (yes l) h = let one : first ≡ w = omega (arith, vertex) in rw one has
+                    which (no l) h = let one : first ≡ start = omega (arith, vertex) in rw one (keeps (ℕ-discrete w start))
+                      where
+                        keeps : Dec (w ≡ start) → isMarked X (markBy t marked) start ≡ true
+                        keeps (yes e) = rw (← e) has
+                        keeps (no e) = let inside : start < vertices (t .grid) = omega (arith, vertex) in start-same start (other start inside (λ f. e (sym f))) ∙ so-far .there inside
+
+                by : From S X here 0 → Marking lights marked left first
+                by from = let (w, below, is, start-is) = from-start from refl in at-start w below is start-is
+
+        -- ---- the place was asked
+
+        module _ {lights after : List ℕ} {asked : Bool} {first : ℕ} (did : Asked t view spots best item here near work lights after asked)
+            (same-start : (asked ≡ true → keys after item ≡ 1 → ⊥) → first ≡ start)
+            (less : asked ≡ true → keys after item ≡ 1 → first ≡ start - (start - here .vertex)) where
+          pub marking-on : Marking lights after left first
+          marking-on = by asked refl
+            where
+              by : (b : Bool) → asked ≡ b → Marking lights after left first
+              by false not =
+                  let (same-near, same-work) = did .left not in
+                  rw (same-near, same-work, same-start (λ is. absurd (true≢false (sym is ∙ not)))) (marking-none (did .none not))
+              by true is = one (ℕ-discrete (keys work item) 1)
+                where
+                  key : keys after item ≡ keys work item
+                  key = ap (λ (w : List ℕ). keys w item) (did .marks is) ∙ mark-keys now known done item
+
+                  one : Dec (keys work item ≡ 1) → Marking lights after left first
+                  one (yes e) =
+                      rw (did .marks is) (marking-start (did .leads is) lights (did .lit is) (did .stays) (did .bytes) e (less is (key ∙ e)))
+                  one (no e) =
+                      rw (did .marks is, same-start (λ a f. e (sym key ∙ f))) (marking-inner (did .leads is) lights (did .lit is) (did .stays) (did .bytes) e)
+
+    -- ---- all are asked
+
+    module _ {near work : List ℕ} {left start : ℕ} (so-far : Marking near work left start) (none : left ≤ 0) where
+      -- a place within the best cost that the search came to is settled
+      settled-in : {p : Place} {e : ℕ} → GoodPlace t p → E p ≡ fin e → e + 1 ≤ best → Done (places t) work₀ (placeCode t p)
+      settled-in {p} {e} good at-e near-by =
+          record {
+            touched = omega (arith, cost-told t work₀ p at-e);
+            out = λ o. omega (arith, cost-told t work₀ p at-e, ended .rest (placeCode t p) (code-below good) o);
+          }
+
+      marks₀ : Marks S E best (GoodPlace t) (λ p. 1) (markBy t work)
+      marks₀ =
+          record {
+            near = λ good g at-e is. so-far .within good at-e is;
+            leads = λ good g at-e is. so-far .leads good at-e is;
+            made = λ {p} good g at-e near-by lead.
+                let (i, below, is) = ended .between .laid .all (placeCode t p) (code-below good) (settled-in good at-e near-by) in
+                so-far .made i (omega arith) below good (sym is) at-e lead;
+          }
+
+      forward₀ : best < 1099511627775 → Forward S (GoodPlace t) X (λ p. 1) E (fin best)
+      unfolding reachedBy bestBy
+      forward₀ found =
+          let room = laid-room (ended .between .laid) in
+          let few : 197625 * settled + 197625 < 1099511627775 = omega (arith, places-small fine) in
+          let is-best : bestBy best ≡ fin best = rw (lt-ltb best 1099511627775 found) refl in
+          subst (λ (C : Cost). Forward S (GoodPlace t) X (λ p. 1) E C) is-best
+          (spread-forward view spots fine (ended .between .spread) (omega arith) few (λ c h some. by c h some (open-or-not (places t) (getD work₀ c 0))))
+        where
+          by : (c : ℕ) → c < places t → 0 < keys work₀ c → Dec (In work₀ (places t) c) → Done (places t) work₀ c ⊎ (best < keys work₀ c)
+          by c h some (yes o) = inr (ended .rest c h o)
+          by c h some (no o) = inl (record { touched = some; out = o })
+
+      pub marking-charted : best < 1099511627775 → Charted t view spots work best
+      marking-charted found =
+          let seated = so-far .laid size (ended .between .last) (ended .between .laid) .heaped .seated in
+          let back = sym (same-costs t work work₀ (so-far .same)) in
+          record {
+            room = omega (arith, seated .room);
+            small = λ c h. seated .small c h;
+            forward = subst (λ (D : Place → Cost). Forward S (GoodPlace t) X (λ p. 1) D (fin best)) back (forward₀ found);
+            marks = subst (λ (D : Place → Cost). Marks S D best (GoodPlace t) (λ p. 1) (markBy t work)) back marks₀;
+          }
+
+      pub marking-lowest : start ≡ lowestMarked t view spots work
+      unfolding markedStart
+      marking-lowest = sym (by (decLt start (vertices (t .grid))))
+        where
+          by : Dec (start < vertices (t .grid)) → lowestFrom (isMarked X (markBy t work)) 0 (vertices (t .grid)) ≡ start
+          by (yes h) = lowest-is (isMarked X (markBy t work)) (vertices (t .grid)) start h (so-far .there h) (so-far .lower)
+          by (no h) =
+              lowest-none (isMarked X (markBy t work)) 0 (vertices (t .grid)) (λ v below. so-far .lower v (omega arith)) ∙ omega (arith, so-far .top)
+
+      pub marking-kept : Beyond (places t + places t) work work₀
+      marking-kept = beyond-by (so-far .long) (λ j h. so-far .rest j (omega arith))

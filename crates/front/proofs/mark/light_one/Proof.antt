@@ -1,0 +1,33 @@
+-- `front::mark::light_one` meets its contract.
+use borrow.Author.Needs.{needs}
+use Rattle.front.proofs.Marking.{none-entered, one-entered, one-lit, lit-stays, lit-long}
+use Rattle.front.proofs.mark.light_one.Statement.{statement}
+use Rattle.front.proofs.mark.light_one.Tie as tie
+
+entered-by-requires : tie.Need-entered-by-requires
+entered-by-requires c κs = let pre = (c .pre) in record { small = pre .0 .small; there = pre .1 }
+
+enum-known-u : tie.Need-enum-known-u
+enum-known-u c = search needs
+
+enum-told : tie.Need-enum-told
+enum-told c = search needs
+
+returns : tie.Need-returns
+returns c =
+    let pre = (c .before .before .before .pre) in
+    (λ u e. absurd (none-entered _ (pre .0) (pre .1) (c .before .before .entered-by .ensures) ((c .enum-told .given) .1) u e), (λ u on. on, pre .2))
+
+element-write-near : tie.Need-element-write-near
+element-write-near c = let pre = (c .before .before .before .before .pre) in one-entered _ (pre .0) (pre .1) (c .before .before .before .entered-by .ensures) ((c .before .u .given) .1)
+
+returns-2 : tie.Need-returns-2
+returns-2 c =
+    let pre = (c .before .before .before .before .pre) in
+    let near = (c .before .before .before .before .args) .near .now in
+    let entered = (c .before .before .before .entered-by .ensures) in
+    let into = (c .before .u .given) .1 in
+    (one-lit _ (pre .0) (pre .1) entered into near (pre .2), (lit-stays _ (pre .0) (pre .1) entered into near (pre .2), lit-long _ (pre .0) (pre .1) entered into near (pre .2)))
+
+pub light-one-spec : {M : Type 1} → statement M
+light-one-spec = tie.close (tie.spec entered-by-requires enum-known-u enum-told returns element-write-near returns-2)

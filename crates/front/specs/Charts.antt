@@ -1,0 +1,33 @@
+-- The work slice before a search, and after one that found an unjoined pin.
+--     Blank            two words for each place, all zero
+--     Charted          the costs from the tree at the best cost, and a mark on each place of a cheapest join
+--     lowestMarked     the lowest start with a mark
+use Prim.Native.Nat.{ℕ, _+_, _^_, _≤_, _<_}
+use mathlib.Core.List.{List}
+use lib.ListN.{length, getD}
+use Rattle.paths.specs.Distances.{fin}
+use Rattle.paths.specs.Forward.{Forward}
+use Rattle.paths.specs.Marks.{Marks, markedStart}
+use Rattle.rules.specs.Views.{View}
+use Rattle.rules.specs.Prices.{Tech}
+use Rattle.rules.specs.Joins.{places}
+use Rattle.rules.specs.Places.{GoodPlace}
+use Rattle.heap.specs.Heaps.{keyOf}
+use Rattle.metal.specs.Codes.{Bare}
+use Rattle.front.specs.Fronts.{systemBy, startsBy, reachedBy, markBy}
+
+-- the slice has two words for each place, and they are zero
+pub record Blank (t : Tech) (work : List ℕ) : Type 0 where
+  pub room : places t + places t ≤ length work
+  pub bare : Bare (places t + places t) work
+
+-- the slice has an entry for each place, and each key is small
+pub record Charted (t : Tech) (view : View) (spots work : List ℕ) (best : ℕ) : Type 0 where
+  pub room : places t ≤ length work
+  pub small : (c : ℕ) → c < places t → keyOf (getD work c 0) ≤ 2 ^ 40
+  pub forward : Forward (systemBy t view spots) (GoodPlace t) (startsBy t view spots) (λ p. 1) (reachedBy t work) (fin best)
+  pub marks : Marks (systemBy t view spots) (reachedBy t work) best (GoodPlace t) (λ p. 1) (markBy t work)
+
+-- the lowest start with a mark
+abbrev pub lowestMarked : Tech → View → (spots work : List ℕ) → ℕ
+lowestMarked t view spots work = markedStart (startsBy t view spots) (markBy t work)

@@ -1,0 +1,58 @@
+-- What the entries of the work slice tell of a search from the tree.
+--     systemBy            places and moves, with an unjoined pin told by its byte
+--     startsBy            the vertices of the tree, told by their bytes
+--     costBy, reachedBy   the cost that a key tells, and the cost to each place
+--     markBy              whether a place has a mark
+--     bestBy              the cost of the cheapest goal found
+--     Searched            what the code asks of its layers
+use Prim.Native.Nat.{ℕ}
+use mathlib.Core.Path.{_≡_}
+use mathlib.Core.List.{List}
+use mathlib.Core.Bool.{Bool, cond}
+use lib.ListN.{getD}
+use lib.Dec.{eqb, ltb}
+use Rattle.job.specs.Grid.{vertices}
+use Rattle.job.specs.Job.{largestMinLength}
+use Rattle.paths.specs.Systems.{System}
+use Rattle.paths.specs.Distances.{Cost, fin, inf}
+use Rattle.paths.specs.Starts.{Starts}
+use Rattle.rules.specs.Views.{View}
+use Rattle.rules.specs.Segments.{Place}
+use Rattle.rules.specs.Prices.{Tech}
+use Rattle.rules.specs.Steps.{step, priced}
+use Rattle.rules.specs.Walks.{startAt}
+use Rattle.rules.specs.Places.{placeCode, entryCost}
+use Rattle.rules.specs.Structs.{techBy, TechFits}
+use Rattle.rules.specs.declared.price.Tech.{Tech as TechStruct}
+use Rattle.heap.specs.Heaps.{keyOf, slotOf}
+
+-- moves 0 to 3; a place on a vertex whose byte says that it is an unjoined pin is a goal
+abbrev pub systemBy : Tech → View → (spots : List ℕ) → System
+systemBy t view spots =
+    record {
+      Place = Place;
+      moves = 4;
+      step = λ p m. priced (step t view p m);
+      goal = λ p. eqb (getD spots (p .vertex) 0) 2;
+    }
+
+-- a vertex whose byte says that it is on the tree is a start
+abbrev pub startsBy : (t : Tech) (view : View) (spots : List ℕ) → Starts (systemBy t view spots)
+startsBy t view spots = record { many = vertices (t .grid); isStart = λ v. eqb (getD spots v 0) 1; place = startAt }
+
+-- the cost to each place that has an entry
+unfoldable pub reachedBy : Tech → (work : List ℕ) → Place → Cost
+reachedBy t work p = entryCost (keyOf (getD work (placeCode t p) 0))
+
+-- whether a place has a mark
+unfoldable pub markBy : Tech → (work : List ℕ) → Place → Bool
+markBy t work p = eqb (slotOf (getD work (placeCode t p) 0)) 1048574
+
+-- the cost of the cheapest goal found: 2^40 - 1 is none
+unfoldable pub bestBy : (best : ℕ) → Cost
+bestBy best = cond (ltb best 1099511627775) (fin best) inf
+
+-- good layers, with the largest M beside them
+pub record Searched (tech : TechStruct) (largest : ℕ) : Type 0 where
+  pub fits : TechFits tech
+  pub is : largest ≡ largestMinLength (techBy tech .lines)

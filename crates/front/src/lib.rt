@@ -1,0 +1,9 @@
+// The search from the tree: places are settled in the order of their cost until no open one is below the cheapest goal found; then the places of
+// cheapest joins are marked.
+pub mod clear;
+pub mod lead;
+pub mod mark;
+pub mod places;
+pub mod reach;
+pub mod seed;
+pub mod settle;

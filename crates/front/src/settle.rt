@@ -1,0 +1,105 @@
+// The search: places are settled in the order of their cost, until no open one is below the cheapest goal found.
+ghost use mathlib.Core.Path.{_≡_};
+ghost use mathlib.Core.List.{List};
+ghost use Prim.Native.Nat.{ℕ, _+_, _-_, _≤_, _<_};
+ghost use lib.ListN.{length, set};
+ghost use Rattle.job.specs.Structs.{gridOf};
+ghost use Rattle.heap.specs.Heaps.{Heaped, Taken};
+ghost use Rattle.tables.specs.Moves.{Prepared};
+ghost use Rattle.metal.specs.Codes.{Beyond, Bare};
+ghost use Rattle.rules.specs.Seen.{viewBy};
+ghost use Rattle.rules.specs.Joins.{places};
+ghost use Rattle.rules.specs.Structs.{techBy};
+ghost use Rattle.front.specs.Fronts.{Searched};
+ghost use Rattle.front.specs.Spreads.{Ended};
+use crate::reach::Front;
+use crate::reach::reach_all;
+use crate::seed::seed;
+use heap::cells::key_at;
+use heap::take_least;
+use rules::price::Tech;
+
+// The cost of no goal.
+pub const NONE: u64 = 1099511627775;
+
+// The heap's size, how many places are settled, and the cost of the cheapest goal found.
+pub struct Found {
+    pub size: usize,
+    pub settled: usize,
+    pub best: u64,
+}
+
+// Takes the open place with the least cost into the list.
+fn take_next(work: &mut [u64], n: usize, size: usize, settled: usize) -> usize
+    requires { ⌜ (Heaped n size (now work)) × (0 < size) × (settled < n) ⌝ }
+    ensures { λ r. ⌜ ((mid : List ℕ) × (Taken n size r (now (work .entry)) mid) × (now (work .exit) ≡ set mid (n + n - 1 - settled) r)) ⌝ }
+{
+    let item = take_least(work, n, size);
+    work[n + n - 1 - settled] = item as u64;
+    item
+}
+
+// The needed part of the slice is lent zero.
+pub fn settle(
+    tech: Tech,
+    rates: &[usize; 40],
+    ground: &[u8; 16384],
+    seen: &[u8; 16384],
+    lows: &[u8; 16384],
+    highs: &[u8; 16384],
+    spots: &[u8; 16384],
+    largest: usize,
+    near: &mut [u8; 16384],
+    work: &mut [u64],
+    n: usize,
+) -> Found
+    requires { ⌜ (Searched tech largest) × (n ≡ places (techBy tech)) × (n + n ≤ length (now work)) × (Bare (n + n) (now work))
+        × (length (now near) ≡ 16384) ⌝ }
+    requires { ⌜ Prepared (techBy tech) (viewBy (gridOf (tech .grid)) (now seen)) (now rates) (now ground) (now lows) (now highs) ⌝ }
+    ensures found { λ r. ⌜ Ended (techBy tech) (viewBy (gridOf (tech .grid)) (now (seen .entry))) (now (spots .entry)) (now (near .exit)) (now (work .exit))
+        (r .size) (r .settled) (r .best) ⌝ }
+    ensures kept { λ _. ⌜ Beyond (n + n) (now (work .exit)) (now (work .entry)) ⌝ }
+{
+    let mut front = Front {
+        size: seed(tech, spots, largest, work, n),
+        best: NONE,
+    };
+    let mut settled = 0;
+    while 0 < front.size {
+        let distance = key_at(work, n, 0) - 1;
+        if front.best <= distance {
+            return Found {
+                size: front.size,
+                settled,
+                best: front.best,
+            };
+        }
+        let item = take_next(work, n, front.size, settled);
+        settled += 1;
+        let rest = Front {
+            size: front.size - 1,
+            best: front.best,
+        };
+        front = reach_all(
+            tech,
+            rates,
+            ground,
+            seen,
+            lows,
+            highs,
+            spots,
+            largest,
+            near,
+            work,
+            n,
+            item,
+            distance,
+            rest,
+        );
+    }
+    Found {
+        size: front.size,
+        settled,
+        best: front.best,
+    }
+}
