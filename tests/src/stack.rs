@@ -11,9 +11,9 @@ use std::path::Path;
 use std::process::{Command, Stdio};
 use std::thread;
 
-use crate::library::{self, REPLAY, ROUTING};
+use crate::library::{self, RoutingResult, REPLAY, ROUTING};
 use crate::replay::replay;
-use crate::routing::routing;
+use crate::routing::{routing, Routing};
 use crate::sizing;
 use cases::{cases, Case};
 
@@ -128,29 +128,21 @@ fn replay_within(stack: usize, mut cases: Vec<Case>) {
 
 /// The plan slices are those of the cases: routed plans, shorter and longer.
 fn routing_within(stack: usize, mut cases: Vec<Case>) {
-    let second = |case: &mut Case| {
-        let Case {
-            job,
-            plan,
-            map,
-            work,
-        } = case;
-        routing(job, map, work, plan)
-    };
-    let expected: Vec<_> = cases.iter_mut().map(second).collect();
+    let expected: Vec<_> = cases
+        .iter_mut()
+        .map(|case| routed_by(routing, case))
+        .collect();
     let mut given = Vec::with_capacity(cases.len());
     within(stack, || {
         for case in &mut cases {
-            let Case {
-                job,
-                plan,
-                map,
-                work,
-            } = case;
-            given.push(ROUTING(job, map, work, plan));
+            given.push(routed_by(ROUTING, case));
         }
     });
     assert_eq!(given, expected);
+}
+
+fn routed_by(routing: Routing, case: &mut Case) -> RoutingResult {
+    routing(&case.job, &mut case.map, &mut case.work, &mut case.plan)
 }
 
 /// Whether the program `stack_need` makes the call with so much stack and lives.

@@ -4,7 +4,6 @@
 --     at-fresh, at-running, at-paid, at-low, at-high   the segment of a number, by the number
 --     numbered                               every number below 2(M + 1) is that of its segment, which is good
 --     place-good, code-place                 every number below the number of places is that of its place, which is good
---     place-code                             a good place is that of its number
 use Prim.Native.Nat.{ℕ, _+_, _-_, _*_, _/_, _%_, _≤_, _<_}
 use mathlib.Core.Path.{_≡_, refl, ap, _∙_}
 use mathlib.Core.Bool.{Bool, true, false, cond}
@@ -14,7 +13,7 @@ use lib.Dec.{eqb, ltb}
 use borrow.Author.Tests.{lt-ltb, le-ltb, eq-eqb, ne-eqb, eqb-true, eqb-false, ltb-true, ltb-false}
 use Rattle.job.specs.Grid.{vertices}
 use Rattle.job.specs.Job.{largestMinLength}
-use Rattle.rules.specs.Segments.{Direction, low, high, Segment, fresh, running, paid, paidToward, Place}
+use Rattle.rules.specs.Segments.{Direction, low, high, Segment, fresh, running, paid, paidToward}
 use Rattle.rules.specs.Overheads.{toward}
 use Rattle.rules.specs.Prices.{Tech}
 use Rattle.rules.specs.Joins.{places}
@@ -25,7 +24,6 @@ use Rattle.rules.specs.declared.segment.Segment.{Segment as SegmentEnum}
 use Rattle.rules.specs.declared.segment.Segment.the-variants.{Running}
 use Rattle.rules.proofs.Owed.{toward-below}
 use Rattle.rules.proofs.Techs.{some-largest}
-use Rattle.rules.proofs.Places.{code-below, code-apart}
 
 -- ---- a segment's number
 
@@ -152,7 +150,3 @@ module _ {t : Tech} (good : GoodTech t) where
     pub code-place : placeCode t (placeAt (largestMinLength (t .lines)) c) ≡ c
     unfolding placeCode codeBy placeAt
     code-place = ap (λ (x : ℕ). c / width * width + x) (segment-here .code) ∙ div-add-mod' c width
-
-  -- a good place is that of its number
-  pub place-code : {p : Place} → GoodPlace t p → placeAt (largestMinLength (t .lines)) (placeCode t p) ≡ p
-  place-code {p} h = code-apart good (place-good (code-below h)) h (code-place (code-below h))

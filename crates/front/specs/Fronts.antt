@@ -1,7 +1,7 @@
 -- What the entries of the work slice tell of a search from the tree.
 --     systemBy            places and moves, with an unjoined pin told by its byte
 --     startsBy            the vertices of the tree, told by their bytes
---     costBy, reachedBy   the cost that a key tells, and the cost to each place
+--     reachedBy           the cost to each place that has an entry
 --     markBy              whether a place has a mark
 --     bestBy              the cost of the cheapest goal found
 --     Searched            what the code asks of its layers

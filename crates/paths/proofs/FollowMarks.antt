@@ -1,6 +1,5 @@
 -- Following the marks of a forward search is following a table of the costs to go.
 --     marks-none, marks-goal, marks-step      nothing is followed with no move left and at a goal; else the lowest move that leads on, then the rest
---     lowest-leads                            from a mark the lowest move that leads on is there
 --     lead-keeps, lowest-lead                 on a cheapest join a move leads on just where it keeps the table's cost; so the lowest of each is one
 --     marks-follow                            so the marks are followed as the table is
 use Prim.Native.Nat.{ℕ, zero, suc, _+_, _<_}
@@ -13,10 +12,10 @@ use Rattle.paths.specs.Distances.{Cost, fin, Table, keeps, lowestKeeping
 use Rattle.paths.specs.Starts.{Starts, GoodStarts}
 use Rattle.paths.specs.Forward.{LowerBound, Forward}
 use Rattle.paths.specs.Marks.{OnBest, onBest, Leads, ends, goesOn, Marks, isLead, lowestLead, leadOn, followMarks}
-use Rattle.paths.proofs.Lowest.{lowest-passes, lowest-same}
+use Rattle.paths.proofs.Lowest.{lowest-same}
 use Rattle.paths.proofs.Following.{follow-none, follow-goal, follow-step, Kept, kept, cost-keeps}
 use Rattle.paths.proofs.OnBest.{same-fin, keeps-leads, leads-keeps}
-use Rattle.paths.proofs.Marks.{leads-map, mark-best, best-mark, leads-known, test-leads, leads-test}
+use Rattle.paths.proofs.Marks.{leads-map, mark-best, best-mark, test-leads, leads-test}
 
 -- two tests that pass together are one
 same-test : (a b : Bool) → (a ≡ true → b ≡ true) → (b ≡ true → a ≡ true) → a ≡ b
@@ -43,16 +42,6 @@ module _ (S : System) (E : S .Place → Cost) (C : ℕ) (mark : S .Place → Boo
       → followMarks S E C mark (suc k) p ≡ lowestLead S E C mark p e ∷ followMarks S E C mark k q
   unfolding followMarks leadOn onward
   marks-step k g at leads = rw (g, followMarks, at, leads)
-
-  -- from a mark the lowest move that leads on is there: it leads to a goal at C or on to a mark at its exact distance
-  pub lowest-leads : {Good : S .Place → Type 0} {h : S .Place → ℕ} {p : S .Place} {e : ℕ} → Marks S E C Good h mark → Good p → S .goal p ≡ false
-      → E p ≡ fin e → mark p ≡ true → Leads S E C (λ q. mark q ≡ true) p e (lowestLead S E C mark p e)
-  unfolding lowestLead
-  lowest-leads {p = p} {e = e} M good g at is =
-      let (m, lead) = M .leads good g at is in
-      let test : ℕ → Bool = λ i. isLead S E C mark e (S .step p i) in
-      let (up, pass) = lowest-passes test 0 (S .moves) m (omega arith) (omega (arith, leads-known lead)) (leads-test lead) in
-      test-leads (omega (arith, leads-known lead)) pass
 
 module _ {S : System} {Good : S .Place → Type 0} {code : S .Place → ℕ} {size dearest : ℕ} (laws : Lawful S Good code size dearest)
     {D : S .Place → Cost} (T : Table S Good D) {X : Starts S} (ok : GoodStarts S Good X) {h : S .Place → ℕ} (low : LowerBound S Good h)
