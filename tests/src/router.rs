@@ -1,5 +1,6 @@
 //! The second router: every net in job order, join by join, each the cheapest.
 
+pub mod left;
 pub mod search;
 
 use std::convert::Infallible;
@@ -7,6 +8,7 @@ use std::convert::Infallible;
 use crate::joining::{join_nets, Joined, NetAtHand, Walk};
 use crate::plan::{Join, Record};
 use crate::rules::board::Board;
+use left::Left;
 use search::Search;
 
 /// What routing a job gives.
@@ -16,20 +18,29 @@ pub struct Routed {
 }
 
 pub fn route(board: &Board) -> Routed {
-    route_with(board, &mut Search::new(board))
+    route_with(board, &mut Search::new(board), |_, _, _| ())
 }
 
-/// How many places the searches for a job's joins settle.
+/// How many places the library's searches for a job's joins settle.
 pub fn settled(board: &Board) -> u64 {
-    let mut search = Search::new(board);
-    route_with(board, &mut search);
-    search.settled()
+    let mut settled = 0;
+    route_with(board, &mut Search::new(board), |search, net, join| {
+        settled += search.settled(join, &Left::of(board, net));
+    });
+    settled
 }
 
-fn route_with(board: &Board, search: &mut Search) -> Routed {
+/// `seen` is shown each search, with its net and the join that it found.
+fn route_with(
+    board: &Board,
+    search: &mut Search,
+    mut seen: impl FnMut(&Search, &NetAtHand, Option<&Join>),
+) -> Routed {
     let mut records = Vec::new();
     let joined = join_nets(board, |net| {
-        let Some(join) = search.cheapest(net) else {
+        let found = search.cheapest(net);
+        seen(search, net, found.as_ref());
+        let Some(join) = found else {
             records.push(Record::NoJoin);
             return Ok::<_, Infallible>(None);
         };

@@ -1,24 +1,27 @@
 -- What the code asks of a place and of a move.
 --     largest-fits, largest-asked     the largest M is at most 15; where there is a place, from 1
---     item-good, item-code            the place of a number is good, and has that number
---     vertex-here                     the vertex of a place is one of the bytes
+--     item-good, item-code, item-bound     the place of a number is good, and has that number
+--     vertex-here, vertex-on          the vertex of a place is one of the bytes, and of the grid
 --     step-asked, code-asked          what the step and the number of a place are asked for
---     start-asked, -made, -below      the place where a join starts
+--     start-asked, -made, -below, -left     the place where a join starts
 --     code-made, code-here            the number that the code makes; it is in the work slice
 --     Led, led, led-not               what a legal move leads to; one that is not legal is blocked
 use Prim.Native.Nat.{ℕ, _+_, _≤_, _<_}
-use mathlib.Core.Path.{_≡_, refl}
+use mathlib.Core.Path.{_≡_, refl, sym, ap, _∙_}
 use mathlib.Core.List.{List}
 use native.Mathlib.Omega.{arith}
 use Rattle.job.specs.Grid.{vertices}
-use Rattle.job.specs.Structs.{gridOf}
+use Rattle.job.specs.Structs.{gridOf, vertexOf, vertexStruct}
+use Rattle.job.specs.declared.grid.Vertex.{Vertex}
 use Rattle.paths.specs.Systems.{blocked, to}
+use Rattle.rules.specs.Tracks.{vertexBy}
 use Rattle.rules.specs.Views.{View}
+use Rattle.rules.specs.Segments.{Place}
 use Rattle.rules.specs.Steps.{Stepped, step, priced}
 use Rattle.rules.specs.Seen.{viewBy}
 use Rattle.rules.specs.Joins.{places}
 use Rattle.rules.specs.Places.{codeBy, placeCode, placeAt, GoodSegment, GoodPlace}
-use Rattle.rules.specs.Structs.{segmentOf, Short, TechFits, techBy, placeOf, madeBy, steppedBy, IsStepped}
+use Rattle.rules.specs.Structs.{OnGrid, segmentOf, Short, TechFits, techBy, placeOf, madeBy, steppedBy, IsStepped}
 use Rattle.rules.specs.declared.price.Tech.{Tech as TechStruct}
 use Rattle.rules.specs.declared.segment.Segment.{Segment as SegmentEnum}
 use Rattle.rules.specs.declared.segment.Segment.the-variants.{Fresh, Running, Paid, PaidToward}
@@ -31,8 +34,10 @@ use Rattle.rules.proofs.Held.{in-array}
 use Rattle.rules.specs.Walks.{startAt}
 use Rattle.rules.proofs.Places.{code-below, start-good}
 use Rattle.rules.proofs.Moves.{step-keeps, step-limits}
-use Rattle.front.specs.Fronts.{Searched}
+use Rattle.bounds.specs.Bounds.{boundOf, boundAt}
+use Rattle.front.specs.Fronts.{leftAt, Searched}
 use Rattle.front.proofs.Numbers.{place-good, code-place}
+use Rattle.front.proofs.Costing.{left-place}
 
 -- a good segment's length fits its field
 short-good : {largest : ℕ} (s : SegmentEnum) → largest ≤ 15 → GoodSegment largest (segmentOf s) → Short s
@@ -60,6 +65,14 @@ module _ {tech : TechStruct} {largest : ℕ} (held : Searched tech largest) wher
       pub item-good : GoodPlace (techBy tech) (placeOf place)
       item-good = rw is number-good
 
+      -- what is left from it, as the code has it
+      pub item-bound : (bounds : List ℕ) {from : Vertex} {left : ℕ} → from ≡ vertexStruct (vertexBy (gridOf (tech .grid)) (place .vertex))
+          → left ≡ boundOf bounds (vertexOf from) → left ≡ leftAt (techBy tech) bounds item
+      unfolding leftAt boundAt techBy
+      item-bound bounds at told =
+          let vertex = ap (λ (p : Place). p .vertex) is in
+          told ∙ rw at (rw (← held .is, ← vertex) refl)
+
       pub item-code : placeCode (techBy tech) (placeOf place) ≡ item
       item-code = rw (is, held .is) (code-place (held .fits .good) known)
 
@@ -76,6 +89,10 @@ module _ {tech : TechStruct} {largest : ℕ} (held : Searched tech largest) wher
     -- its vertex is one of the bytes
     pub vertex-here : place .vertex < 16384
     vertex-here = in-array (held .fits) place-there
+
+    -- its vertex is one of the grid, as the bound asks
+    pub vertex-on : OnGrid (tech .grid) (place .vertex)
+    vertex-on = record { small = held .fits .sized .small; there = place-there }
 
     -- what a step is asked for
     pub step-asked : (TechFits tech) × (place .vertex < vertices (gridOf (tech .grid))) × Short (place .segment)
@@ -143,3 +160,9 @@ module _ {tech : TechStruct} {largest : ℕ} (held : Searched tech largest) wher
 
     pub start-below : {code : ℕ} → code ≡ codeBy largest (placeOf start) → code < places (techBy tech)
     start-below made = omega (arith, code-made start start-on made, code-below start-on)
+
+    -- what is left from there, as the code has it
+    pub start-left : (bounds : List ℕ) {left : ℕ} → left ≡ boundAt (gridOf (tech .grid)) bounds v
+        → left ≡ leftAt (techBy tech) bounds (placeCode (techBy tech) (startAt v))
+    unfolding techBy startAt segmentOf
+    start-left bounds told = told ∙ sym (left-place (held .fits .good) bounds start-on)

@@ -1,7 +1,8 @@
 -- The moves of cheapest joins, in the code's words.
---     lead-stopped, lead-goal, lead-mark            whether a move leads to a goal at the best cost, or on to a mark
---     distance-told                                 the distance of a place, by its key
---     Untried, untried-begun, untried-on            so far no move does
+--     lead-stopped, lead-goal                       whether a move leads to a goal at the best cost
+--     lead-unmarked, lead-mark                      or on to a mark
+--     key-asked, key-read, distance-told                      the key of a place that has a cost, and the cost
+--     Untried, untried-begun, -on, -skip            so far no move does
 --     untried-here, untried-none                    the first that does; none does
 use Prim.Native.Nat.{ℕ, zero, suc, _+_, _-_, _*_, _/_, _%_, _≤_, _<_}
 use mathlib.Core.Path.{_≡_, refl, sym, _∙_}
@@ -16,6 +17,8 @@ use Rattle.paths.specs.Systems.{Step, blocked, to}
 use Rattle.paths.specs.Distances.{isCost, lowestFrom}
 use Rattle.paths.specs.Marks.{isLead, lowestLead}
 use Rattle.paths.proofs.Lowest.{lowest-next, lowest-is}
+use Rattle.job.specs.Structs.{gridOf}
+use Rattle.bounds.specs.Bounds.{boundAt}
 use Rattle.rules.specs.Views.{View}
 use Rattle.rules.specs.Segments.{Place}
 use Rattle.rules.specs.Prices.{Tech}
@@ -25,57 +28,88 @@ use Rattle.rules.specs.Structs.{techBy, placeOf}
 use Rattle.rules.specs.declared.price.Tech.{Tech as TechStruct}
 use Rattle.rules.specs.declared.step.Place.{Place as PlaceStruct}
 use Rattle.heap.specs.Heaps.{keyOf, slotOf}
-use Rattle.front.specs.Fronts.{reachedBy, markBy, Searched}
-use Rattle.front.specs.Leads.{leadBy, lowestBy}
+use Rattle.front.specs.Fronts.{leftAt, costIn, costs, reachedBy, markBy, Searched}
+use Rattle.front.specs.Leads.{leadBy, lowestBy, OnlyMoves}
+use Rattle.front.specs.Bits.{HasMove}
 use Rattle.front.proofs.Asking.{code-made}
+use Rattle.front.proofs.Costing.{cost-in, in-cost, costs-told, left-place}
 
 -- ---- one move
 
--- an entry is that of a mark at a distance just where it has the mark and the distance
-mark-told : (word cost : ℕ) → eqb word ((cost + 1) * 1048576 + 1048574) ≡ cond (eqb (slotOf word) 1048574) (isCost cost (entryCost (keyOf word))) false
+-- an entry is that of a mark at a cost just where it has the mark and the cost
+mark-told : (left word cost : ℕ) → eqb word ((8 * cost + left + 1) * 1048576 + 1048574)
+    ≡ cond (eqb (slotOf word) 1048574) (isCost cost (entryCost (costIn left (keyOf word)))) false
 unfolding slotOf keyOf isCost entryCost
-mark-told word cost = by (ℕ-discrete (word % 1048576) 1048574) (word / 1048576) refl
+mark-told left word cost = by (ℕ-discrete (word % 1048576) 1048574) (costIn left (word / 1048576)) refl
   where
-    by : Dec (word % 1048576 ≡ 1048574) → (key : ℕ) → word / 1048576 ≡ key
-        → eqb word ((cost + 1) * 1048576 + 1048574) ≡ cond (eqb (word % 1048576) 1048574) (isCost cost (entryCost (word / 1048576))) false
-    by (no e) key is = rw (ne-eqb (word % 1048576) 1048574 e) (ne-eqb word ((cost + 1) * 1048576 + 1048574) (λ f. e (omega arith)))
-    by (yes e) zero is = rw (eq-eqb (word % 1048576) 1048574 e, is) (ne-eqb word ((cost + 1) * 1048576 + 1048574) (λ f. omega arith))
+    by : Dec (word % 1048576 ≡ 1048574) → (told : ℕ) → costIn left (word / 1048576) ≡ told
+        → eqb word ((8 * cost + left + 1) * 1048576 + 1048574) ≡ cond (eqb (word % 1048576) 1048574) (isCost cost (entryCost (costIn left (word / 1048576)))) false
+    by (no e) told is = rw (ne-eqb (word % 1048576) 1048574 e) (ne-eqb word ((8 * cost + left + 1) * 1048576 + 1048574) (λ f. e (omega arith)))
+    by (yes e) zero is = rw (eq-eqb (word % 1048576) 1048574 e, is) (ne-eqb word ((8 * cost + left + 1) * 1048576 + 1048574) (λ f. not-told f))
+      where
+        not-told : word ≡ (8 * cost + left + 1) * 1048576 + 1048574 → ⊥
+        not-told f = let key : word / 1048576 ≡ suc (8 * cost + left) = omega arith in omega (arith, is, in-cost left (word / 1048576) key)
     by (yes e) (suc n) is = rw (eq-eqb (word % 1048576) 1048574 e, is) (at (ℕ-discrete n cost))
       where
-        at : Dec (n ≡ cost) → eqb word ((cost + 1) * 1048576 + 1048574) ≡ eqb n cost
-        at (yes f) = rw (eq-eqb n cost f) (eq-eqb word ((cost + 1) * 1048576 + 1048574) (omega arith))
-        at (no f) = rw (ne-eqb n cost f) (ne-eqb word ((cost + 1) * 1048576 + 1048574) (λ g. f (omega arith)))
+        key : word / 1048576 ≡ suc (8 * n + left)
+        key = cost-in left (word / 1048576) is
 
-module _ (t : Tech) (view : View) (spots work : List ℕ) (best e : ℕ) {move : Step Place} where
+        at : Dec (n ≡ cost) → eqb word ((8 * cost + left + 1) * 1048576 + 1048574) ≡ eqb n cost
+        at (yes f) = rw (eq-eqb n cost f) (eq-eqb word ((8 * cost + left + 1) * 1048576 + 1048574) (omega (arith, key)))
+        at (no f) = rw (ne-eqb n cost f) (ne-eqb word ((8 * cost + left + 1) * 1048576 + 1048574) (λ g. f (omega (arith, key))))
+
+module _ (t : Tech) (view : View) (spots bounds work : List ℕ) (best e : ℕ) {move : Step Place} where
   -- a blocked move leads nowhere
-  pub lead-stopped : move ≡ blocked → false ≡ leadBy t view spots work best e move
+  pub lead-stopped : move ≡ blocked → false ≡ leadBy t view spots bounds work best e move
   unfolding isLead
   lead-stopped is = rw is refl
 
   module _ {c : ℕ} {q : Place} (is : move ≡ to c q) where
     -- into a goal the cost is the best
-    pub lead-goal : getD spots (q .vertex) 0 ≡ 2 → eqb (e + c) best ≡ leadBy t view spots work best e move
+    pub lead-goal : getD spots (q .vertex) 0 ≡ 2 → eqb (e + c) best ≡ leadBy t view spots bounds work best e move
     unfolding isLead
     lead-goal goal = rw (is, eq-eqb (getD spots (q .vertex) 0) 2 goal) refl
 
-    -- elsewhere the entry is that of a mark at the distance
-    pub lead-mark : (getD spots (q .vertex) 0 ≡ 2 → ⊥) → {code : ℕ} → code ≡ placeCode t q
-        → eqb (getD work code 0) ((e + c + 1) * 1048576 + 1048574) ≡ leadBy t view spots work best e move
-    unfolding isLead reachedBy markBy
-    lead-mark other at = rw (is, ne-eqb (getD spots (q .vertex) 0) 2 other, at) (mark-told (getD work (placeCode t q) 0) (e + c))
+    -- elsewhere the entry has a mark
+    pub lead-unmarked : (getD spots (q .vertex) 0 ≡ 2 → ⊥) → {code : ℕ} → code ≡ placeCode t q → (getD work code 0 % 1048576 ≡ 1048574 → ⊥)
+        → false ≡ leadBy t view spots bounds work best e move
+    unfolding isLead markBy slotOf
+    lead-unmarked other {code} at bare =
+        rw (is, ne-eqb (getD spots (q .vertex) 0) 2 other, ne-eqb (getD work (placeCode t q) 0 % 1048576) 1048574 (rw at at bare)) refl
+
+    -- and is that of a mark at the distance
+    pub lead-mark : (getD spots (q .vertex) 0 ≡ 2 → ⊥) → {code left : ℕ} → code ≡ placeCode t q → left ≡ leftAt t bounds (placeCode t q)
+        → eqb (getD work code 0) ((8 * (e + c) + left + 1) * 1048576 + 1048574) ≡ leadBy t view spots bounds work best e move
+    unfolding isLead reachedBy costs markBy
+    lead-mark other at rest =
+        rw (is, ne-eqb (getD spots (q .vertex) 0) 2 other, at, rest) (mark-told (leftAt t bounds (placeCode t q)) (getD work (placeCode t q) 0) (e + c))
 
 -- ---- the lowest
 
--- the distance of a place, by the key in its entry
-pub distance-told : {tech : TechStruct} {largest : ℕ} → Searched tech largest → (place : PlaceStruct) → GoodPlace (techBy tech) (placeOf place)
-    → (work : List ℕ) {code key : ℕ} → code ≡ codeBy largest (placeOf place) → key ≡ keyOf (getD work code 0)
-    → key - 1 ≡ keyOf (getD work (placeCode (techBy tech) (placeOf place)) 0) - 1
-distance-told held place on work made is = rw (is, code-made held place on made) refl
+-- the key of a place that has a cost: the code takes what is left off it
+pub key-asked : {tech : TechStruct} {largest : ℕ} → Searched tech largest → (place : PlaceStruct) → GoodPlace (techBy tech) (placeOf place)
+    → (bounds work : List ℕ) {code key left : ℕ} → code ≡ codeBy largest (placeOf place) → key ≡ keyOf (getD work code 0)
+    → left ≡ boundAt (gridOf (tech .grid)) bounds (place .vertex) → 0 < costs (techBy tech) bounds work (placeCode (techBy tech) (placeOf place))
+    → key ≡ suc (8 * (costs (techBy tech) bounds work (placeCode (techBy tech) (placeOf place)) - 1) + left)
+unfolding techBy
+key-asked {tech} held place on bounds work made is rest some =
+    let told = costs-told (techBy tech) bounds work (placeCode (techBy tech) (placeOf place)) {e = costs (techBy tech) bounds work (placeCode (techBy tech) (placeOf place)) - 1} (omega (arith, some)) in
+    rw (is, code-made held place on made, rest, ← left-place (held .fits .good) bounds on) told
 
-module _ (t : Tech) (view : View) (spots work : List ℕ) (best : ℕ) (p : Place) where
+-- the key that the code reads is the place's
+pub key-read : {tech : TechStruct} {largest : ℕ} → Searched tech largest → (place : PlaceStruct) → GoodPlace (techBy tech) (placeOf place)
+    → (work : List ℕ) {code key : ℕ} → code ≡ codeBy largest (placeOf place) → key ≡ keyOf (getD work code 0)
+    → key ≡ keyOf (getD work (placeCode (techBy tech) (placeOf place)) 0)
+key-read held place on work made is = rw (is, code-made held place on made) refl
+
+-- and what it costs
+pub distance-told : (key left cost : ℕ) → key ≡ suc (8 * (cost - 1) + left) → (key - 1 - left) / 8 ≡ cost - 1
+distance-told key left cost is = omega arith
+
+module _ (t : Tech) (view : View) (spots bounds work : List ℕ) (best : ℕ) (p : Place) where
   -- whether a move leads on, from p at a distance
   abbrev test : (e : ℕ) → ℕ → Bool
-  test e m = leadBy t view spots work best e (priced (step t view p m))
+  test e m = leadBy t view spots bounds work best e (priced (step t view p m))
 
   -- so far none does
   pub record Untried (distance n : ℕ) : Type 0 where
@@ -95,19 +129,24 @@ module _ (t : Tech) (view : View) (spots work : List ℕ) (best : ℕ) (p : Plac
         by i below (yes e) = rw e (sym is ∙ not)
         by i below (no e) = so-far .none i (omega arith)
 
-    module _ {key e : ℕ} (told : distance ≡ key - 1) (from : key ≡ suc e) where
+    -- a move that is not of the byte does not
+    pub untried-skip : (byte : ℕ) {cost : ℕ} → distance ≡ cost - 1 → 0 < cost → ((e : ℕ) → cost ≡ suc e → OnlyMoves t view spots bounds work best p e byte) → n < 4
+        → (HasMove byte n → ⊥) → Untried distance (n + 1)
+    untried-skip byte {cost} told some only h off = untried-on h refl (rw told (only (cost - 1) (omega arith) n h off))
+
+    module _ {cost e : ℕ} (told : distance ≡ cost - 1) (from : cost ≡ suc e) where
       -- its distance
       here : distance ≡ e
       here = omega arith
 
       -- the first that does
-      pub untried-here : {r : Bool} → n < 4 → r ≡ test distance n → r ≡ true → n ≡ lowestBy t view spots work best p e
+      pub untried-here : {r : Bool} → n < 4 → r ≡ test distance n → r ≡ true → n ≡ lowestBy t view spots bounds work best p e
       unfolding lowestLead
       untried-here h is leads =
           rw (← here) (sym (lowest-is (test distance) 4 n h (sym is ∙ leads) (so-far .none)))
 
       -- none does
-      pub untried-none : 4 ≤ n → 4 ≡ lowestBy t view spots work best p e
+      pub untried-none : 4 ≤ n → 4 ≡ lowestBy t view spots bounds work best p e
       unfolding lowestLead lowestFrom
       untried-none h = rw (← here) (sym (past 0 4 (omega arith)))
         where

@@ -2,6 +2,8 @@
 --     Numbers      places by number and back
 --     Lawful       the laws of cheapest walks hold
 --     Laying       the layout of the work slice
+--     Costing      the cost that an entry tells, and what is left at least
+--     Bits         bytes with a bit for each move
 --     Asking       what the code asks of a place and of a move
 --     Spreading    what the entries have come to, move by move
 --     Reaching     one move, in the code's words
@@ -14,6 +16,8 @@
 pub mod Numbers
 pub mod Lawful
 pub mod Laying
+pub mod Costing
+pub mod Bits
 pub mod Asking
 pub mod Spreading
 pub mod Reaching

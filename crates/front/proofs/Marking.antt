@@ -1,13 +1,15 @@
 -- The places of cheapest joins get marks, from the last settled place to the first.
---     none-entered, one-entered, one-lit                the vertex that a move enters is lit
---     lit-stays, lit-long                               and those that were stay so
---     Lighting, lighting-begun, -on, -done              the neighbours of a vertex, one after the other
---     item-place, -vertex, -key, -lowest                the place of a number, and the lowest move that leads on from it
---     asked-not, asked-marked                           it is asked
+--     none-entered, one-entered, one-lit                the bit of the move back is set at the vertex that a move enters
+--     lit-stays, lit-long                               and those that were set stay so
+--     Lighting, lighting-begun, -on, -done              the moves that enter a vertex, one after the other
+--     item-place, -vertex, -left, -key, -cost, -lowest  the place of a number, and the lowest move that leads on from it
+--     start-told, told-start                            whether it is a start
+--     asked-not, asked-marked, answered-not, -marked    it is asked
 --     Marking, marking-begun, marking-on                so many settled places are not asked
 --     marking-fits, marking-read, marking-asked         the next of them
+--     marking-only, marking-unlit                       only the moves of its vertex's byte may lead on
 --     marking-charted, -lowest, -kept                   all are asked
-use Prim.Native.Nat.{ℕ, zero, suc, _+_, _-_, _*_, _/_, _^_, _≤_, _<_}
+use Prim.Native.Nat.{ℕ, zero, suc, _+_, _-_, _*_, _/_, _%_, _^_, _≤_, _<_}
 use mathlib.Core.Path.{_≡_, refl, sym, ap, subst, _∙_}
 use mathlib.Core.Logic.{_⊎_, inl, inr}
 use mathlib.Core.List.{List}
@@ -16,7 +18,7 @@ use native.Mathlib.Omega.{arith}
 use native.Mathlib.Decide.{ℕ-discrete, decLt}
 use lib.ListN.{length, getD, set, length-set}
 use lib.Dec.{eqb}
-use lib.Seq.{getD-set-same, getD-set-other}
+use lib.Seq.{getD-set-other}
 use borrow.Author.Tests.{eqb-true, eq-eqb, lt-ltb}
 use Rattle.job.specs.Grid.{Grid, vertices}
 use Rattle.job.specs.Structs.{Sized, gridOf}
@@ -43,24 +45,27 @@ use Rattle.rules.specs.Walks.{startAt}
 use Rattle.rules.specs.Places.{placeCode, placeAt, entryCost, GoodPlace, GoodTech}
 use Rattle.rules.proofs.Neighbours.{entered-below, entered-back}
 use Rattle.rules.proofs.Places.{code-below, start-good, places-small}
-use Rattle.rules.proofs.Segments.{move-led}
-use Rattle.rules.proofs.Moves.{step-parts}
 use Rattle.heap.specs.Heaps.{keyOf, slotOf, wordOf, In}
 use Rattle.heap.proofs.Words.{open-or-not}
 use Rattle.metal.specs.Codes.{Beyond}
 use Rattle.metal.proofs.Slices.{beyond-by}
-use Rattle.front.specs.Fronts.{systemBy, startsBy, reachedBy, markBy, bestBy, Searched}
+use Rattle.bounds.specs.Bounds.{boundAt, Bounding}
+use Rattle.front.specs.Fronts.{systemBy, startsBy, leftAt, costs, reachedBy, atLeast, markBy, bestBy, Searched}
 use Rattle.front.specs.Lists.{listAt, Done, Laid}
+use Rattle.front.specs.Bits.{HasMove, withMove}
 use Rattle.front.specs.Spreads.{keys, Ended}
-use Rattle.front.specs.Leads.{lowestBy, Asked}
+use Rattle.front.specs.Leads.{leadBy, lowestBy, OnlyMoves, Asked, Answered}
 use Rattle.front.specs.Charts.{Charted, lowestMarked}
 use Rattle.front.proofs.Numbers.{place-good, code-place}
 use Rattle.front.proofs.Asking.{item-code}
-use Rattle.front.proofs.Lawful.{lawful-by, starts-good}
+use Rattle.front.proofs.Lawful.{lawful-by, legal-enters, starts-good}
 use Rattle.front.proofs.Laying.{at-list, laid-room, mark-keys, mark-slot, laid-mark}
-use Rattle.front.proofs.Spreading.{cost-key, spread-forward}
+use Rattle.front.proofs.Costing.{costs-told, told-costs, same-costs, nearer-by, bounds-low}
+use Rattle.front.proofs.Bits.{none-has, moves-set, moves-stay}
+use Rattle.front.proofs.Spreading.{cost-key}
+use Rattle.front.proofs.Settling.{ended-rest, ended-forward}
 
--- ---- the neighbours of a vertex
+-- ---- the moves that enter a vertex
 
 module _ {grid : GridStruct} {v : ℕ} (number : ℕ) (sized : Sized grid) (below : v < vertices (gridOf grid)) {r : EnteredEnum}
     (is : r ≡ enteredOf (entered (gridOf grid) v number)) where
@@ -77,57 +82,61 @@ module _ {grid : GridStruct} {v : ℕ} (number : ℕ) (sized : Sized grid) (belo
     one-entered = omega (arith, entered-below (gridOf grid) number below (entered-at _ (sym is ∙ into)), sized .vertices)
 
     module _ (near : List ℕ) (long : length near ≡ 16384) where
-      -- with the byte set it is lit
-      here-lit : getD (set near u 1) u 0 ≡ 1
-      here-lit = getD-set-same near u 1 0 (omega (arith, one-entered))
-
-      pub one-lit : (w : ℕ) → entered (gridOf grid) v number ≡ at w → getD (set near u 1) w 0 ≡ 1
-      one-lit w e = rw (same (sym e ∙ entered-at _ (sym is ∙ into))) here-lit
+      -- with a move's bit set there
+      pub one-lit : (m w : ℕ) → entered (gridOf grid) v number ≡ at w → HasMove (getD (set near u (withMove (getD near u 0) m)) w 0) m
+      one-lit m w e = rw (same (sym e ∙ entered-at _ (sym is ∙ into))) (moves-set near u m (omega (arith, one-entered)))
         where
           same : {a b : ℕ} → at a ≡ at b → a ≡ b
           same f = cc
 
-      -- and those that were lit stay so
-      pub lit-stays : (w : ℕ) → getD near w 0 ≡ 1 → getD (set near u 1) w 0 ≡ 1
-      lit-stays w on = by (ℕ-discrete w u)
-        where
-          by : Dec (w ≡ u) → getD (set near u 1) w 0 ≡ 1
-          by (yes e) = rw e here-lit
-          by (no e) = getD-set-other near u w 1 0 e ∙ on
+      -- those that were set stay so
+      pub lit-stays : (m w k : ℕ) → HasMove (getD near w 0) k → HasMove (getD (set near u (withMove (getD near u 0) m)) w 0) k
+      lit-stays m = moves-stay near u m (omega (arith, one-entered))
 
-      pub lit-long : length (set near u 1) ≡ 16384
-      lit-long = length-set near u 1 ∙ long
+      pub lit-long : (m : ℕ) → length (set near u (withMove (getD near u 0) m)) ≡ 16384
+      lit-long m = length-set near u _ ∙ long
+
+-- a move is the opposite of its opposite
+back-twice : (m : ℕ) → m < 4 → m + 1 - 2 * (m % 2) + 1 - 2 * ((m + 1 - 2 * (m % 2)) % 2) ≡ m
+back-twice zero h = refl
+back-twice (suc zero) h = refl
+back-twice (suc (suc zero)) h = refl
+back-twice (suc (suc (suc zero))) h = refl
+back-twice (suc (suc (suc (suc m)))) h = absurd (omega arith)
 
 module _ (g : Grid) (v : ℕ) (near₀ : List ℕ) where
-  -- what so many moves enter is lit
+  -- where so many moves enter, the bits of the moves back are set
   pub record Lighting (near : List ℕ) (number : ℕ) : Type 0 where
     pub few : number ≤ 4
-    pub lit : (m u : ℕ) → m < number → entered g v m ≡ at u → getD near u 0 ≡ 1
-    pub stays : (u : ℕ) → getD near₀ u 0 ≡ 1 → getD near u 0 ≡ 1
+    pub lit : (m u : ℕ) → m < number → entered g v m ≡ at u → HasMove (getD near u 0) (m + 1 - 2 * (m % 2))
+    pub stays : (u m : ℕ) → HasMove (getD near₀ u 0) m → HasMove (getD near u 0) m
     pub bytes : length near ≡ 16384
 
   pub lighting-begun : length near₀ ≡ 16384 → Lighting near₀ 0
-  lighting-begun long = record { few = omega arith; lit = λ m u h. absurd (omega arith); stays = λ u is. is; bytes = long }
+  lighting-begun long = record { few = omega arith; lit = λ m u h. absurd (omega arith); stays = λ u m is. is; bytes = long }
 
   module _ {near : List ℕ} {number : ℕ} (so-far : Lighting near number) where
     -- one more
-    pub lighting-on : {after : List ℕ} → number < 4 → ((u : ℕ) → entered g v number ≡ at u → getD after u 0 ≡ 1)
-        → ((u : ℕ) → getD near u 0 ≡ 1 → getD after u 0 ≡ 1) → length after ≡ 16384 → Lighting after (number + 1)
+    pub lighting-on : {after : List ℕ} → number < 4 → ((u : ℕ) → entered g v number ≡ at u → HasMove (getD after u 0) (number + 1 - 2 * (number % 2)))
+        → ((u m : ℕ) → HasMove (getD near u 0) m → HasMove (getD after u 0) m) → length after ≡ 16384 → Lighting after (number + 1)
     lighting-on {after} h lit stays long =
         record {
           few = omega arith;
           lit = λ m u below e. by m u below e (ℕ-discrete m number);
-          stays = λ u is. stays u (so-far .stays u is);
+          stays = λ u m is. stays u m (so-far .stays u m is);
           bytes = long;
         }
       where
-        by : (m u : ℕ) → m < number + 1 → entered g v m ≡ at u → Dec (m ≡ number) → getD after u 0 ≡ 1
-        by m u below e (yes is) = lit u (rw is at e)
-        by m u below e (no is) = stays u (so-far .lit m u (omega arith) e)
+        by : (m u : ℕ) → m < number + 1 → entered g v m ≡ at u → Dec (m ≡ number) → HasMove (getD after u 0) (m + 1 - 2 * (m % 2))
+        by m u below e (yes is) = rw is (lit u (rw is at e))
+        by m u below e (no is) = stays u _ (so-far .lit m u (omega arith) e)
 
-    -- all: from each vertex that a move leads here from, a move leads back
-    pub lighting-done : 4 ≤ number → (u m : ℕ) → u < vertices g → entered g u m ≡ at v → getD near u 0 ≡ 1
-    lighting-done all u m below e = let (k, less, back) = entered-back g m below e in so-far .lit k u (omega arith) back
+    -- all: where a move enters v, the opposite one leads back, and the move is the opposite of that
+    pub lighting-done : 4 ≤ number → (u m : ℕ) → u < vertices g → entered g u m ≡ at v → HasMove (getD near u 0) m
+    lighting-done all u m below e =
+        let (less, back) = entered-back g m below e in
+        let lit = so-far .lit (m + 1 - 2 * (m % 2)) u (omega arith) back in
+        subst (HasMove (getD near u 0)) (back-twice m less) lit
 
 -- ---- one place, in the code's words
 
@@ -141,20 +150,36 @@ module _ {tech : TechStruct} {largest : ℕ} (held : Searched tech largest) {ite
   unfolding placeAt techBy
   item-vertex = item-place .0 .vertex
 
-  module _ (place : PlaceStruct) (is : placeOf place ≡ placeAt largest item) (work : List ℕ) where
-    -- the key of that place is the entry's
+  -- what is left from the place of a number, by its vertex
+  pub item-left : (bounds : List ℕ) → leftAt (techBy tech) bounds item ≡ boundAt (gridOf (tech .grid)) bounds (item / (2 * (largest + 1)))
+  unfolding leftAt placeAt techBy
+  item-left bounds = rw (held .is) refl
+
+  -- it is a start where its key is just what is left, and 1
+  module _ (bounds work : List ℕ) {key left : ℕ} (told : key ≡ keys work item) (rest : left ≡ boundAt (gridOf (tech .grid)) bounds (item / (2 * (largest + 1)))) where
+    pub start-told : costs (techBy tech) bounds work item ≡ 1 → key ≡ left + 1
+    start-told none = omega (arith, costs-told (techBy tech) bounds work item none, item-left bounds, told, rest)
+
+    pub told-start : key ≡ left + 1 → costs (techBy tech) bounds work item ≡ 1
+    told-start is = told-costs (techBy tech) bounds work item (omega (arith, item-left bounds, told, rest))
+
+  module _ (place : PlaceStruct) (is : placeOf place ≡ placeAt largest item) (bounds work : List ℕ) where
+    -- the entry of that place is the number's
     pub item-key : keys work (placeCode (techBy tech) (placeOf place)) ≡ keys work item
     item-key = ap (keys work) (item-code held known place is)
 
-    -- the lowest move from it that leads on
-    pub item-lowest : (view : View) (spots : List ℕ) (best : ℕ) {r : ℕ} → ((e : ℕ) → keys work (placeCode (techBy tech) (placeOf place)) ≡ suc e → r ≡ lowestBy (techBy tech) view spots work best (placeOf place) e)
-        → (e : ℕ) → keys work item ≡ suc e → r ≡ lowestBy (techBy tech) view spots work best (placeAt largest item) e
-    item-lowest view spots best told e from = told e (item-key ∙ from) ∙ ap (λ (p : Place). lowestBy (techBy tech) view spots work best p e) is
+    pub item-cost : costs (techBy tech) bounds work (placeCode (techBy tech) (placeOf place)) ≡ costs (techBy tech) bounds work item
+    item-cost = ap (costs (techBy tech) bounds work) (item-code held known place is)
 
-module _ {t : Tech} {view : View} {spots : List ℕ} {best item : ℕ} {p : Place} {near work : List ℕ} where
-  -- no move leads on, or the vertex is not lit
-  pub asked-not : length near ≡ 16384 → (getD near (p .vertex) 0 ≡ 1 → (e : ℕ) → keys work item ≡ suc e → 4 ≤ lowestBy t view spots work best p e)
-      → Asked t view spots best item p near work near work false
+    -- the lowest move from it that leads on
+    pub item-lowest : (view : View) (spots : List ℕ) (best : ℕ) {r : ℕ} → ((e : ℕ) → costs (techBy tech) bounds work (placeCode (techBy tech) (placeOf place)) ≡ suc e → r ≡ lowestBy (techBy tech) view spots bounds work best (placeOf place) e)
+        → (e : ℕ) → costs (techBy tech) bounds work item ≡ suc e → r ≡ lowestBy (techBy tech) view spots bounds work best (placeAt largest item) e
+    item-lowest view spots best told e from = told e (item-cost ∙ from) ∙ ap (λ (p : Place). lowestBy (techBy tech) view spots bounds work best p e) is
+
+module _ {t : Tech} {view : View} {spots bounds : List ℕ} {best item : ℕ} {p : Place} {near work : List ℕ} where
+  -- no move leads on
+  pub asked-not : length near ≡ 16384 → ((e : ℕ) → costs t bounds work item ≡ suc e → 4 ≤ lowestBy t view spots bounds work best p e)
+      → Asked t view spots bounds best item p near work near work false
   asked-not long none =
       record {
         left = λ not. (refl, refl);
@@ -162,15 +187,15 @@ module _ {t : Tech} {view : View} {spots : List ℕ} {best item : ℕ} {p : Plac
         marks = λ is. absurd (true≢false (sym is));
         leads = λ is. absurd (true≢false (sym is));
         lit = λ is. absurd (true≢false (sym is));
-        stays = λ u on. on;
+        stays = λ u m on. on;
         bytes = long;
       }
 
   -- a move does
-  pub asked-marked : {lights after : List ℕ} → ((e : ℕ) → keys work item ≡ suc e → lowestBy t view spots work best p e < 4)
+  pub asked-marked : {lights after : List ℕ} → ((e : ℕ) → costs t bounds work item ≡ suc e → lowestBy t view spots bounds work best p e < 4)
       → after ≡ set work item (wordOf (keyOf (getD work item 0)) 1048574)
-      → ((u m : ℕ) → u < vertices (t .grid) → entered (t .grid) u m ≡ at (p .vertex) → getD lights u 0 ≡ 1)
-      → ((u : ℕ) → getD near u 0 ≡ 1 → getD lights u 0 ≡ 1) → length lights ≡ 16384 → Asked t view spots best item p near work lights after true
+      → ((u m : ℕ) → u < vertices (t .grid) → entered (t .grid) u m ≡ at (p .vertex) → HasMove (getD lights u 0) m)
+      → ((u m : ℕ) → HasMove (getD near u 0) m → HasMove (getD lights u 0) m) → length lights ≡ 16384 → Asked t view spots bounds best item p near work lights after true
   asked-marked leads marks lit stays long =
       record {
         left = λ not. absurd (true≢false not);
@@ -181,6 +206,17 @@ module _ {t : Tech} {view : View} {spots : List ℕ} {best item : ℕ} {p : Plac
         stays = stays;
         bytes = long;
       }
+
+  -- with the lower start
+  pub answered-not : {start : ℕ} → Asked t view spots bounds best item p near work near work false
+      → Answered t view spots bounds best item p near work near work start start
+  answered-not asked = record { marked = false; asked = asked; same = λ other. refl; lower = λ is. absurd (true≢false (sym is)) }
+
+  pub answered-marked : {lights after : List ℕ} {start r : ℕ} → Asked t view spots bounds best item p near work lights after true
+      → ((costs t bounds after item ≡ 1 → ⊥) → r ≡ start) → (costs t bounds after item ≡ 1 → r ≡ start - (start - p .vertex))
+      → Answered t view spots bounds best item p near work lights after start r
+  answered-marked asked same lower =
+      record { marked = true; asked = asked; same = λ other. same (λ none. other refl none); lower = λ is none. lower none }
 
 -- ---- the lowest of some numbers
 
@@ -215,36 +251,43 @@ module _ (t : Tech) (work : List ℕ) (p : Place) where
   told-mark is = eq-eqb _ 1048574 is
 
   -- and a cost where its key does
-  cost-told : {e : ℕ} → reachedBy t work p ≡ fin e → keys work (placeCode t p) ≡ suc e
+  cost-told : (bounds : List ℕ) {e : ℕ} → reachedBy t bounds work p ≡ fin e → costs t bounds work (placeCode t p) ≡ suc e
   unfolding reachedBy
-  cost-told is = cost-key _ is
+  cost-told bounds is = cost-key _ is
 
 -- entries with the same keys tell the same costs
-same-costs : (t : Tech) (work found : List ℕ) → ((c : ℕ) → keys work c ≡ keys found c) → reachedBy t work ≡ reachedBy t found
+same-reached : (t : Tech) (bounds work found : List ℕ) → ((c : ℕ) → keys work c ≡ keys found c) → reachedBy t bounds work ≡ reachedBy t bounds found
 unfolding reachedBy
-same-costs t work found same = λ i p. entryCost (same (placeCode t p) i)
+same-reached t bounds work found same = λ i p. entryCost (same-costs t bounds work found (placeCode t p) (same (placeCode t p)) i)
 
-module _ (t : Tech) (view : View) (spots work : List ℕ) (best : ℕ) (p : Place) (e : ℕ) where
+module _ (t : Tech) (view : View) (spots bounds work : List ℕ) (best : ℕ) (p : Place) (e : ℕ) where
   abbrev Leading : ℕ → Type 0
-  Leading m = Leads (systemBy t view spots) (reachedBy t work) best (λ q. markBy t work q ≡ true) p e m
+  Leading m = Leads (systemBy t view spots) (reachedBy t bounds work) best (λ q. markBy t work q ≡ true) p e m
 
   -- the lowest move that leads on is one of the four just where one leads on
-  lead-some : lowestBy t view spots work best p e < 4 → (m : ℕ) × Leading m
+  lead-some : lowestBy t view spots bounds work best p e < 4 → (m : ℕ) × Leading m
   unfolding lowestLead
   lead-some h =
-      let test : ℕ → Bool = λ m. isLead (systemBy t view spots) (reachedBy t work) best (markBy t work) e (systemBy t view spots .step p m) in
+      let test : ℕ → Bool = λ m. isLead (systemBy t view spots) (reachedBy t bounds work) best (markBy t work) e (systemBy t view spots .step p m) in
       (lowestFrom test 0 4, test-leads h (lowest-one test 0 4 h))
 
-  lead-none : 4 ≤ lowestBy t view spots work best p e → {m : ℕ} → Leading m → ⊥
+  lead-none : 4 ≤ lowestBy t view spots bounds work best p e → {m : ℕ} → Leading m → ⊥
   unfolding lowestLead
   lead-none h {m} lead =
-      let test : ℕ → Bool = λ m. isLead (systemBy t view spots) (reachedBy t work) best (markBy t work) e (systemBy t view spots .step p m) in
+      let test : ℕ → Bool = λ m. isLead (systemBy t view spots) (reachedBy t bounds work) best (markBy t work) e (systemBy t view spots .step p m) in
       let (up, pass) = lowest-passes test 0 4 m (omega arith) (leads-known lead) (leads-test lead) in
       omega (arith, leads-known lead)
 
+  -- of a byte without any move none does
+  only-none : {byte : ℕ} → byte ≡ 0 → OnlyMoves t view spots bounds work best p e byte → 4 ≤ lowestBy t view spots bounds work best p e
+  unfolding lowestLead
+  only-none zeros only =
+      let test : ℕ → Bool = λ m. isLead (systemBy t view spots) (reachedBy t bounds work) best (markBy t work) e (systemBy t view spots .step p m) in
+      omega (arith, lowest-none test 0 4 (λ m less. only m less (none-has m zeros)))
+
 -- ---- so many settled places are not asked
 
-module _ (t : Tech) (view : View) (spots work₀ : List ℕ) (settled best : ℕ) where
+module _ (t : Tech) (view : View) (spots bounds work₀ : List ℕ) (settled best : ℕ) where
   abbrev S : System
   S = systemBy t view spots
 
@@ -253,13 +296,13 @@ module _ (t : Tech) (view : View) (spots work₀ : List ℕ) (settled best : ℕ
 
   -- the cost to each place
   abbrev E : Place → Cost
-  E = reachedBy t work₀
+  E = reachedBy t bounds work₀
 
   -- a move leads to a goal at the best cost, or on to a mark
   abbrev Lead : (work : List ℕ) → Place → (e m : ℕ) → Type 0
   Lead work p e m = Leads S E best (λ q. markBy t work q ≡ true) p e m
 
-  -- the others have marks just where a move leads on; from a vertex that is not lit none does; and of the starts with marks the lowest is known
+  -- the others have marks just where a move leads on; only the moves of a vertex's byte may; and of the starts with marks the lowest is known
   pub record Marking (near work : List ℕ) (left start : ℕ) : Type 0 where
     pub few : left ≤ settled
     pub long : length work ≡ length work₀
@@ -271,8 +314,8 @@ module _ (t : Tech) (view : View) (spots work₀ : List ℕ) (settled best : ℕ
     pub made : (i : ℕ) → left ≤ i → i < settled → {p : Place} {e m : ℕ} → GoodPlace t p → placeCode t p ≡ listAt (places t) work₀ i → E p ≡ fin e
         → Lead work p e m → markBy t work p ≡ true
     pub goals : {p q : Place} {m c : ℕ} → GoodPlace t p → Done (places t) work₀ (placeCode t p) → Legal S p m c q → eqb (getD spots (q .vertex) 0) 2 ≡ true
-        → getD near (p .vertex) 0 ≡ 1
-    pub lit : {p q : Place} {m c : ℕ} → GoodPlace t p → Legal S p m c q → markBy t work q ≡ true → getD near (p .vertex) 0 ≡ 1
+        → HasMove (getD near (p .vertex) 0) m
+    pub lit : {p q : Place} {m c : ℕ} → GoodPlace t p → Legal S p m c q → markBy t work q ≡ true → HasMove (getD near (p .vertex) 0) m
     pub bytes : length near ≡ 16384
     pub top : start ≤ vertices (t .grid)
     pub lower : (v : ℕ) → v < start → isMarked X (markBy t work) v ≡ false
@@ -280,7 +323,8 @@ module _ (t : Tech) (view : View) (spots work₀ : List ℕ) (settled best : ℕ
 
   -- ---- before the first
 
-  module _ (fine : GoodTech t) {near₀ : List ℕ} {size : ℕ} (ended : Ended t view spots near₀ work₀ size settled best) where
+  module _ (fine : GoodTech t) (bounding : Bounding t spots bounds) {near₀ : List ℕ} {size : ℕ}
+      (ended : Ended t view spots bounds near₀ work₀ size settled best) where
     -- no place has a mark
     no-mark : (c : ℕ) → c < places t → slotOf (getD work₀ c 0) ≡ 1048574 → ⊥
     unfolding slotOf
@@ -336,13 +380,6 @@ module _ (t : Tech) (view : View) (spots work₀ : List ℕ) (settled best : ℕ
     from-start (starts {v = v} below is) none = (v, below, is, refl)
     from-start (goes from g legal) none = absurd (omega (arith, lawful-by view spots fine .costs (from-good from) legal))
 
-    -- a move enters the vertex of the place that it leads to
-    legal-enters : {p q : Place} {m c : ℕ} → GoodPlace t p → Legal S p m c q → entered (t .grid) (p .vertex) m ≡ at (q .vertex)
-    legal-enters {p} {q} {m} {c} good legal =
-        let went = step-parts t view p m (legal .leads) in
-        let led = move-led view p m (went .vertex) (went .enter) fine (good .vertex) (went .does) in
-        rw (led .vertex) (went .enters)
-
     -- ---- one more
 
     module _ {near work : List ℕ} {before start : ℕ} (so-far : Marking near work before start) (some-left : 0 < before) where
@@ -362,13 +399,16 @@ module _ (t : Tech) (view : View) (spots work₀ : List ℕ) (settled best : ℕ
       marking-read is = rw is (sym (so-far .rest (places t + places t - 1 - left) (omega (arith, marking-fits .0))))
 
       -- what asking it needs
-      pub marking-asked : {item : ℕ} → listAt (places t) work₀ left ≡ item → (item < places t) × (0 < keys work item) × (keys work item ≤ 2 ^ 40)
+      pub marking-asked : {item : ℕ} → listAt (places t) work₀ left ≡ item → (item < places t) × (0 < costs t bounds work item) × (keys work item ≤ 2 ^ 40)
       marking-asked {item} is =
           let laid = ended .between .laid in
           let below : left < settled = omega (arith, so-far .few) in
           let known : item < places t = rw (← is) (laid .listed left below) in
-          let done : Done (places t) work₀ item = rw (← is) (laid .done left below) in
-          (known, omega (arith, done .touched, so-far .same item), omega (arith, so-far .same item, laid .heaped .seated .small item known))
+          let done : Done (places t) work₀ item = rw (← is) (laid .done left below) in (
+            known,
+            rw (same-costs t bounds work work₀ item (so-far .same item)) (ended .between .told item known (done .touched)),
+            omega (arith, so-far .same item, laid .heaped .seated .small item known),
+          )
 
       module _ {item : ℕ} (is-item : listAt (places t) work₀ left ≡ item) {here : Place} (on : GoodPlace t here) (is-here : placeCode t here ≡ item) where
         laid₀ : Laid (places t) size settled (ended .between .last) work₀
@@ -392,32 +432,46 @@ module _ (t : Tech) (view : View) (spots work₀ : List ℕ) (settled best : ℕ
             let list = at-list (places t) work work₀ left (so-far .rest (places t + places t - 1 - left) (omega (arith, more))) in
             rw (← is-item, ← list) (now .done left more)
 
+        cost-same : costs t bounds work item ≡ costs t bounds work₀ item
+        cost-same = same-costs t bounds work work₀ item (so-far .same item)
+
         -- the cost to the place
-        cost-here : {e : ℕ} → E here ≡ fin e → keys work item ≡ suc e
-        cost-here at-e = so-far .same item ∙ sym (ap (keys work₀) is-here) ∙ cost-told t work₀ here at-e
+        cost-here : {e : ℕ} → E here ≡ fin e → costs t bounds work item ≡ suc e
+        cost-here at-e = cost-same ∙ sym (ap (costs t bounds work₀) is-here) ∙ cost-told t work₀ here bounds at-e
 
         -- a good place with the item's number is this one
         same-here : {p : Place} → GoodPlace t p → placeCode t p ≡ item → p ≡ here
         same-here good e = lawful-by view spots fine .apart good on (e ∙ sym is-here)
 
         -- what the entries say of a move, in the costs before the first mark
-        lead-was : {p : Place} {e m : ℕ} → Leads S (reachedBy t work) best (λ q. markBy t work q ≡ true) p e m → Lead work p e m
+        lead-was : {p : Place} {e m : ℕ} → Leads S (reachedBy t bounds work) best (λ q. markBy t work q ≡ true) p e m → Lead work p e m
         lead-was {p} {e} {m} lead =
-            subst (λ (D : Place → Cost). Leads S D best (λ q. markBy t work q ≡ true) p e m) (same-costs t work work₀ (so-far .same)) lead
+            subst (λ (D : Place → Cost). Leads S D best (λ q. markBy t work q ≡ true) p e m) (same-reached t bounds work work₀ (so-far .same)) lead
 
-        lead-is : {p : Place} {e m : ℕ} → Lead work p e m → Leads S (reachedBy t work) best (λ q. markBy t work q ≡ true) p e m
+        lead-is : {p : Place} {e m : ℕ} → Lead work p e m → Leads S (reachedBy t bounds work) best (λ q. markBy t work q ≡ true) p e m
         lead-is {p} {e} {m} lead =
-            subst (λ (D : Place → Cost). Leads S D best (λ q. markBy t work q ≡ true) p e m) (sym (same-costs t work work₀ (so-far .same))) lead
+            subst (λ (D : Place → Cost). Leads S D best (λ q. markBy t work q ≡ true) p e m) (sym (same-reached t bounds work work₀ (so-far .same))) lead
+
+        -- only a move of the vertex's byte leads on
+        pub marking-only : (e : ℕ) → costs t bounds work item ≡ suc e → OnlyMoves t view spots bounds work best here e (getD near (here .vertex) 0)
+        marking-only e is m less off = by (leadBy t view spots bounds work best e (S .step here m)) refl
+          where
+            has : Lead work here e m → HasMove (getD near (here .vertex) 0) m
+            has (ends legal g sum) = so-far .goals on (rw is-here done₀) legal g
+            has (goesOn legal g at-q marked) = so-far .lit on legal marked
+
+            by : (b : Bool) → leadBy t view spots bounds work best e (S .step here m) ≡ b → leadBy t view spots bounds work best e (S .step here m) ≡ false
+            by true pass = absurd (off (has (lead-was (test-leads less pass))))
+            by false pass = pass
+
+        -- from a vertex without any none does
+        pub marking-unlit : getD near (here .vertex) 0 ≡ 0 → (e : ℕ) → costs t bounds work item ≡ suc e → 4 ≤ lowestBy t view spots bounds work best here e
+        marking-unlit zeros e is = only-none t view spots bounds work best here e zeros (marking-only e is)
 
         -- where no move leads on
-        module _ (none : getD near (here .vertex) 0 ≡ 1 → (e : ℕ) → keys work item ≡ suc e → 4 ≤ lowestBy t view spots work best here e) where
-          -- one that did would start at a lit vertex
+        module _ (none : (e : ℕ) → costs t bounds work item ≡ suc e → 4 ≤ lowestBy t view spots bounds work best here e) where
           no-lead : {e m : ℕ} → E here ≡ fin e → Lead work here e m → ⊥
-          no-lead {e} at-e lead = lead-none t view spots work best here e (none (by lead) e (cost-here at-e)) (lead-is lead)
-            where
-              by : {e m : ℕ} → Lead work here e m → getD near (here .vertex) 0 ≡ 1
-              by (ends legal g sum) = so-far .goals on (rw is-here done₀) legal g
-              by (goesOn legal g at-q is) = so-far .lit on legal is
+          no-lead {e} at-e lead = lead-none t view spots bounds work best here e (none e (cost-here at-e)) (lead-is lead)
 
           marking-none : Marking near work left start
           marking-none =
@@ -445,8 +499,8 @@ module _ (t : Tech) (view : View) (spots work₀ : List ℕ) (settled best : ℕ
                   let same = same-here good (code ∙ ap (listAt (places t) work₀) f ∙ is-item) in
                   absurd (no-lead (rw same at at-e) (subst (λ (x : Place). Lead work x e m) same lead))
 
-        -- where one does, the place gets a mark, and what leads to it is lit
-        module _ (some : (e : ℕ) → keys work item ≡ suc e → lowestBy t view spots work best here e < 4) where
+        -- where one does, the place gets a mark, and the moves that enter it their bits
+        module _ (some : (e : ℕ) → costs t bounds work item ≡ suc e → lowestBy t view spots bounds work best here e < 4) where
           abbrev marked : List ℕ
           marked = set work item (wordOf (keyOf (getD work item 0)) 1048574)
 
@@ -476,7 +530,7 @@ module _ (t : Tech) (view : View) (spots work₀ : List ℕ) (settled best : ℕ
           lead-here : {p : Place} {e : ℕ} → GoodPlace t p → placeCode t p ≡ item → E p ≡ fin e → (m : ℕ) × Lead work p e m
           lead-here {p} {e} good code at-e =
               let same = same-here good code in
-              let (m, lead) = lead-some t view spots work best here e (some e (cost-here (rw same at at-e))) in
+              let (m, lead) = lead-some t view spots bounds work best here e (some e (cost-here (rw same at at-e))) in
               (m, subst (λ (x : Place). Lead work x e m) (sym same) (lead-was lead))
 
           -- at no more than the best cost
@@ -491,9 +545,9 @@ module _ (t : Tech) (view : View) (spots work₀ : List ℕ) (settled best : ℕ
             where
               other : (q : Place) (c : ℕ) {m : ℕ} → Legal S p m c q → E q ≡ fin (e + c) → placeCode t q ≡ item → ⊥
               other q c legal at-q same =
-                  let far = ap (keys work₀) (sym (same ∙ sym is-item)) ∙ cost-told t work₀ q at-q in
-                  let near-by = ap (keys work₀) (sym code) ∙ cost-told t work₀ p at-e in
-                  omega (arith, laid₀ .rising left i h k, far, near-by, lawful-by view spots fine .costs good legal)
+                  let far = ap (keys work₀) (sym (same ∙ sym is-item)) ∙ costs-told t bounds work₀ _ (cost-told t work₀ q bounds at-q) in
+                  let near-by = ap (keys work₀) (sym code) ∙ costs-told t bounds work₀ _ (cost-told t work₀ p bounds at-e) in
+                  omega (arith, laid₀ .rising left i h k, far, near-by, lawful-by view spots fine .costs good legal, nearer-by view fine bounding good legal)
 
           made-on : (i : ℕ) → left ≤ i → i < settled → {p : Place} {e m : ℕ} → GoodPlace t p → placeCode t p ≡ listAt (places t) work₀ i → E p ≡ fin e
               → Lead marked p e m → markBy t marked p ≡ true
@@ -526,18 +580,18 @@ module _ (t : Tech) (view : View) (spots work₀ : List ℕ) (settled best : ℕ
               by true is = rw is (mark-same (startAt v) (other is))
               by false is = rw is refl
 
-          -- ---- its neighbours are lit, and the lowest start is known
+          -- ---- the moves that enter it have their bits, and the lowest start is known
 
-          module _ (lights : List ℕ) (shines : (u m : ℕ) → u < vertices (t .grid) → entered (t .grid) u m ≡ at (here .vertex) → getD lights u 0 ≡ 1)
-              (stays : (u : ℕ) → getD near u 0 ≡ 1 → getD lights u 0 ≡ 1) (bytes : length lights ≡ 16384) where
-            lit-on : {p q : Place} {m c : ℕ} → GoodPlace t p → Legal S p m c q → markBy t marked q ≡ true → getD lights (p .vertex) 0 ≡ 1
+          module _ (lights : List ℕ) (shines : (u m : ℕ) → u < vertices (t .grid) → entered (t .grid) u m ≡ at (here .vertex) → HasMove (getD lights u 0) m)
+              (stays : (u m : ℕ) → HasMove (getD near u 0) m → HasMove (getD lights u 0) m) (bytes : length lights ≡ 16384) where
+            lit-on : {p q : Place} {m c : ℕ} → GoodPlace t p → Legal S p m c q → markBy t marked q ≡ true → HasMove (getD lights (p .vertex) 0) m
             lit-on {p} {q} {m} good legal is = by (ℕ-discrete (placeCode t q) item)
               where
-                by : Dec (placeCode t q ≡ item) → getD lights (p .vertex) 0 ≡ 1
+                by : Dec (placeCode t q ≡ item) → HasMove (getD lights (p .vertex) 0) m
                 by (yes f) =
                     let same = same-here (lawful-by view spots fine .keeps good legal) f in
-                    shines (p .vertex) m (good .vertex) (legal-enters good legal ∙ ap (λ (x : Place). at (x .vertex)) same)
-                by (no f) = stays (p .vertex) (so-far .lit good legal (sym (mark-same q f) ∙ is))
+                    shines (p .vertex) m (good .vertex) (legal-enters view fine m good (legal .leads) ∙ ap (λ (x : Place). at (x .vertex)) same)
+                by (no f) = stays (p .vertex) m (so-far .lit good legal (sym (mark-same q f) ∙ is))
 
             -- with the lowest start that has a mark
             marking-with : {first : ℕ} → first ≤ vertices (t .grid) → ((v : ℕ) → v < first → isMarked X (markBy t marked) v ≡ false)
@@ -552,7 +606,7 @@ module _ (t : Tech) (view : View) (spots work₀ : List ℕ) (settled best : ℕ
                   within = within-on;
                   leads = leads-on;
                   made = λ i h k good code at-e lead. made-on i h k good code at-e lead;
-                  goals = λ {p} good d legal g. stays (p .vertex) (so-far .goals good d legal g);
+                  goals = λ {p} {q} {m} good d legal g. stays (p .vertex) m (so-far .goals good d legal g);
                   lit = lit-on;
                   bytes = bytes;
                   top = top;
@@ -561,19 +615,19 @@ module _ (t : Tech) (view : View) (spots work₀ : List ℕ) (settled best : ℕ
                 }
 
             -- a place that costs something is no start
-            marking-inner : (keys work item ≡ 1 → ⊥) → Marking lights marked left start
-            marking-inner costs =
+            marking-inner : (costs t bounds work item ≡ 1 → ⊥) → Marking lights marked left start
+            marking-inner dear =
                 marking-with (so-far .top) (λ v h. start-same v (other v (omega (arith, so-far .top))) ∙ so-far .lower v h)
                 (λ h. start-same start (other start h) ∙ so-far .there h)
               where
                 other : (v : ℕ) → v < vertices (t .grid) → X .isStart v ≡ true → placeCode t (startAt v) ≡ item → ⊥
                 other v h is code =
-                    costs (so-far .same item ∙ sym (ap (keys work₀) code) ∙ ended .between .spread .starts v h (eqb-true (getD spots v 0) 1 is))
+                    dear (cost-same ∙ sym (ap (costs t bounds work₀) code) ∙ ended .between .spread .starts v h (eqb-true (getD spots v 0) 1 is))
 
             -- one that costs nothing is
-            marking-start : keys work item ≡ 1 → {first : ℕ} → first ≡ start - (start - here .vertex) → Marking lights marked left first
+            marking-start : costs t bounds work item ≡ 1 → {first : ℕ} → first ≡ start - (start - here .vertex) → Marking lights marked left first
             unfolding startAt
-            marking-start costs {first} lesser = by (ended .between .spread .reached on (ap (keys work₀) is-here ∙ sym (so-far .same item) ∙ costs))
+            marking-start none {first} lesser = by (ended .between .spread .reached on (ap (costs t bounds work₀) is-here ∙ sym cost-same ∙ none))
               where
                 at-start : (w : ℕ) → w < vertices (t .grid) → X .isStart w ≡ true → here ≡ startAt w → Marking lights marked left first
                 at-start w below is start-is =
@@ -602,39 +656,42 @@ module _ (t : Tech) (view : View) (spots work₀ : List ℕ) (settled best : ℕ
 
         -- ---- the place was asked
 
-        module _ {lights after : List ℕ} {asked : Bool} {first : ℕ} (did : Asked t view spots best item here near work lights after asked)
-            (same-start : (asked ≡ true → keys after item ≡ 1 → ⊥) → first ≡ start)
-            (less : asked ≡ true → keys after item ≡ 1 → first ≡ start - (start - here .vertex)) where
+        module _ {lights after : List ℕ} {first : ℕ} (did : Answered t view spots bounds best item here near work lights after start first) where
           pub marking-on : Marking lights after left first
-          marking-on = by asked refl
+          marking-on = by (did .marked) refl
             where
-              by : (b : Bool) → asked ≡ b → Marking lights after left first
+              by : (b : Bool) → did .marked ≡ b → Marking lights after left first
               by false not =
-                  let (same-near, same-work) = did .left not in
-                  rw (same-near, same-work, same-start (λ is. absurd (true≢false (sym is ∙ not)))) (marking-none (did .none not))
-              by true is = one (ℕ-discrete (keys work item) 1)
+                  let (same-near, same-work) = did .asked .left not in
+                  rw (same-near, same-work, did .same (λ is. absurd (true≢false (sym is ∙ not)))) (marking-none (did .asked .none not))
+              by true is = one (ℕ-discrete (costs t bounds work item) 1)
                 where
-                  key : keys after item ≡ keys work item
-                  key = ap (λ (w : List ℕ). keys w item) (did .marks is) ∙ mark-keys now known done item
+                  marks : after ≡ set work item (wordOf (keyOf (getD work item 0)) 1048574)
+                  marks = did .asked .marks is
 
-                  one : Dec (keys work item ≡ 1) → Marking lights after left first
+                  cost : costs t bounds after item ≡ costs t bounds work item
+                  cost = same-costs t bounds after work item (ap (λ (w : List ℕ). keys w item) marks ∙ mark-keys now known done item)
+
+                  one : Dec (costs t bounds work item ≡ 1) → Marking lights after left first
                   one (yes e) =
-                      rw (did .marks is) (marking-start (did .leads is) lights (did .lit is) (did .stays) (did .bytes) e (less is (key ∙ e)))
+                      rw marks
+                      (marking-start (did .asked .leads is) lights (did .asked .lit is) (did .asked .stays) (did .asked .bytes) e (did .lower is (cost ∙ e)))
                   one (no e) =
-                      rw (did .marks is, same-start (λ a f. e (sym key ∙ f))) (marking-inner (did .leads is) lights (did .lit is) (did .stays) (did .bytes) e)
+                      rw (marks, did .same (λ a f. e (sym cost ∙ f)))
+                      (marking-inner (did .asked .leads is) lights (did .asked .lit is) (did .asked .stays) (did .asked .bytes) e)
 
     -- ---- all are asked
 
     module _ {near work : List ℕ} {left start : ℕ} (so-far : Marking near work left start) (none : left ≤ 0) where
       -- a place within the best cost that the search came to is settled
-      settled-in : {p : Place} {e : ℕ} → GoodPlace t p → E p ≡ fin e → e + 1 ≤ best → Done (places t) work₀ (placeCode t p)
-      settled-in {p} {e} good at-e near-by =
-          record {
-            touched = omega (arith, cost-told t work₀ p at-e);
-            out = λ o. omega (arith, cost-told t work₀ p at-e, ended .rest (placeCode t p) (code-below good) o);
-          }
+      settled-in : {p : Place} {e : ℕ} → GoodPlace t p → E p ≡ fin e → e + atLeast t bounds p ≤ best → Done (places t) work₀ (placeCode t p)
+      settled-in {p} {e} good at-e near-by = by (ended-rest view fine bounding ended p e good (cost-told t work₀ p bounds at-e))
+        where
+          by : Done (places t) work₀ (placeCode t p) ⊎ (best < e + atLeast t bounds p) → Done (places t) work₀ (placeCode t p)
+          by (inl done) = done
+          by (inr far) = absurd (omega arith)
 
-      marks₀ : Marks S E best (GoodPlace t) (λ p. 1) (markBy t work)
+      marks₀ : Marks S E best (GoodPlace t) (atLeast t bounds) (markBy t work)
       marks₀ =
           record {
             near = λ good g at-e is. so-far .within good at-e is;
@@ -644,28 +701,22 @@ module _ (t : Tech) (view : View) (spots work₀ : List ℕ) (settled best : ℕ
                 so-far .made i (omega arith) below good (sym is) at-e lead;
           }
 
-      forward₀ : best < 1099511627775 → Forward S (GoodPlace t) X (λ p. 1) E (fin best)
-      unfolding reachedBy bestBy
+      forward₀ : best < 1099511627775 → Forward S (GoodPlace t) X (atLeast t bounds) E (fin best)
+      unfolding bestBy
       forward₀ found =
-          let room = laid-room (ended .between .laid) in
-          let few : 197625 * settled + 197625 < 1099511627775 = omega (arith, places-small fine) in
           let is-best : bestBy best ≡ fin best = rw (lt-ltb best 1099511627775 found) refl in
-          subst (λ (C : Cost). Forward S (GoodPlace t) X (λ p. 1) E C) is-best
-          (spread-forward view spots fine (ended .between .spread) (omega arith) few (λ c h some. by c h some (open-or-not (places t) (getD work₀ c 0))))
-        where
-          by : (c : ℕ) → c < places t → 0 < keys work₀ c → Dec (In work₀ (places t) c) → Done (places t) work₀ c ⊎ (best < keys work₀ c)
-          by c h some (yes o) = inr (ended .rest c h o)
-          by c h some (no o) = inl (record { touched = some; out = o })
+          subst (λ (C : Cost). Forward S (GoodPlace t) X (atLeast t bounds) E C) is-best (ended-forward view fine bounding ended)
 
-      pub marking-charted : best < 1099511627775 → Charted t view spots work best
+      pub marking-charted : best < 1099511627775 → Charted t view spots bounds work best
       marking-charted found =
           let seated = so-far .laid size (ended .between .last) (ended .between .laid) .heaped .seated in
-          let back = sym (same-costs t work work₀ (so-far .same)) in
+          let back = sym (same-reached t bounds work work₀ (so-far .same)) in
           record {
             room = omega (arith, seated .room);
             small = λ c h. seated .small c h;
-            forward = subst (λ (D : Place → Cost). Forward S (GoodPlace t) X (λ p. 1) D (fin best)) back (forward₀ found);
-            marks = subst (λ (D : Place → Cost). Marks S D best (GoodPlace t) (λ p. 1) (markBy t work)) back marks₀;
+            low = bounds-low view fine bounding;
+            forward = subst (λ (D : Place → Cost). Forward S (GoodPlace t) X (atLeast t bounds) D (fin best)) back (forward₀ found);
+            marks = subst (λ (D : Place → Cost). Marks S D best (GoodPlace t) (atLeast t bounds) (markBy t work)) back marks₀;
           }
 
       pub marking-lowest : start ≡ lowestMarked t view spots work

@@ -8,7 +8,7 @@
 --     Eased             an entry lowered to a key, unless it is settled or no greater
 --     spread-goes       a move to another place
 --     spread-forward    no open place is below the best cost: what the search has found
-use Prim.Native.Nat.{ℕ, zero, suc, _+_, _-_, _≤_, _<_}
+use Prim.Native.Nat.{ℕ, zero, suc, _+_, _-_, _^_, _≤_, _<_}
 use mathlib.Core.Path.{_≡_, refl, sym, ap, _∙_}
 use mathlib.Core.Logic.{_⊎_, inl, inr}
 use mathlib.Core.List.{List}
@@ -18,7 +18,6 @@ use native.Mathlib.Decide.{ℕ-discrete, decLt}
 use lib.ListN.{length, getD, set}
 use lib.Dec.{eqb, ltb}
 use borrow.Author.Tests.{eqb-true, ltb-true, ltb-false}
-use lib.Seq.{getD-set-same, getD-set-other}
 use Rattle.job.specs.Grid.{vertices}
 use Rattle.job.specs.Job.{largestMinLength}
 use Rattle.paths.specs.Systems.{blocked, to, Legal}
@@ -35,9 +34,11 @@ use Rattle.rules.specs.Joins.{places}
 use Rattle.rules.specs.Places.{placeCode, placeAt, entryCost, GoodPlace, GoodTech}
 use Rattle.rules.proofs.Places.{code-below, start-good}
 use Rattle.front.specs.Fronts.{systemBy, startsBy, bestBy}
-use Rattle.front.specs.Spreads.{Entered, Spread, Seeded}
+use Rattle.front.specs.Bits.{HasMove, withMove}
+use Rattle.front.specs.Spreads.{Entered, Spread}
 use Rattle.front.proofs.Numbers.{place-good, code-place}
 use Rattle.front.proofs.Lawful.{lawful-by, tree-no-goal}
+use Rattle.front.proofs.Bits.{moves-set, moves-stay}
 
 -- ---- the cost that a key tells
 
@@ -105,21 +106,24 @@ module _ {t : Tech} (view : View) (spots : List ℕ) (fine : GoodTech t) where
   Bounds key best p m = (q : Place) (e c : ℕ) → key (placeCode t p) ≡ suc e → Legal (systemBy t view spots) p m c q → goal q ≡ true → best ≤ e + c
 
   abbrev Shows : (near : List ℕ) → Place → ℕ → Type 0
-  Shows near p m = (q : Place) (c : ℕ) → Legal (systemBy t view spots) p m c q → goal q ≡ true → getD near (p .vertex) 0 ≡ 1
+  Shows near p m = (q : Place) (c : ℕ) → Legal (systemBy t view spots) p m c q → goal q ≡ true → HasMove (getD near (p .vertex) 0) m
 
   module _ {key : ℕ → ℕ} {settled : ℕ → Type 0} where
     -- before any place is settled
-    pub spread-begun : {near : List ℕ} (limit item number : ℕ) → Seeded t spots (vertices (t .grid)) key → ((c : ℕ) → c < places t → settled c → ⊥)
-        → Spread t view spots key settled near 1099511627775 limit item number
+    pub spread-begun : {near : List ℕ} (limit item number : ℕ)
+        → ((v : ℕ) → v < vertices (t .grid) → getD spots v 0 ≡ 1 → key (placeCode t (startAt v)) ≡ 1)
+        → ((p : Place) → GoodPlace t p → 0 < key (placeCode t p)
+        → (key (placeCode t p) ≡ 1) × ((v : ℕ) × (v < vertices (t .grid)) × (getD spots v 0 ≡ 1) × (p ≡ startAt v)))
+        → ((c : ℕ) → c < places t → settled c → ⊥) → Spread t view spots key settled near 1099511627775 limit item number
     unfolding startAt
-    spread-begun limit item number seeded none =
+    spread-begun limit item number starts only none =
         record {
-          starts = seeded .starts;
+          starts = starts;
           reached = λ {p} {e} good is.
-              let (one, (v, below, byte, start)) = seeded .only good (omega (arith, is)) in
+              let (one, (v, below, byte, start)) = only p good (omega (arith, is)) in
               from-start below byte start (omega arith);
           noGoals = λ {p} good some.
-              let (one, (v, below, byte, start)) = seeded .only good some in
+              let (one, (v, below, byte, start)) = only p good some in
               start-no-goal v byte start;
           small = λ c h. by c h;
           closed = λ good done. absurd (none _ (code-below good) done);
@@ -136,7 +140,7 @@ module _ {t : Tech} (view : View) (spots : List ℕ) (fine : GoodTech t) where
             on (no z) = omega arith
             on (yes some) =
                 let is = code-place fine h in
-                let (one, (v, below, byte, start)) = seeded .only (place-good fine h) (rw is some) in
+                let (one, (v, below, byte, start)) = only (at c) (place-good fine h) (rw is some) in
                 omega (arith, rw is at one)
 
     module _ {near : List ℕ} {best limit item number : ℕ} (so-far : Spread t view spots key settled near best limit item number) where
@@ -241,13 +245,9 @@ module _ {t : Tech} (view : View) (spots : List ℕ) (fine : GoodTech t) where
       abbrev lesser : ℕ
       lesser = best - (best - (distance + price))
 
-      -- a byte that is set stays so
-      byte-stays : (u : ℕ) → getD near u 0 ≡ 1 → getD (set near (here .vertex) 1) u 0 ≡ 1
-      byte-stays u is = by (ℕ-discrete u (here .vertex))
-        where
-          by : Dec (u ≡ here .vertex) → getD (set near (here .vertex) 1) u 0 ≡ 1
-          by (yes e) = rw e (getD-set-same near (here .vertex) 1 0 room)
-          by (no e) = getD-set-other near (here .vertex) u 1 0 e ∙ is
+      -- the move's bit is set
+      abbrev lights : List ℕ
+      lights = set near (here .vertex) (withMove (getD near (here .vertex) 0) number)
 
       -- the cheapest goal found
       lesser-found : lesser < 1099511627775 → Entered t view spots key settled lesser
@@ -271,7 +271,7 @@ module _ {t : Tech} (view : View) (spots : List ℕ) (fine : GoodTech t) where
                 sum = omega arith;
               }
 
-      lessened : Spread t view spots key settled (set near (here .vertex) 1) lesser limit item number
+      lessened : Spread t view spots key settled lights lesser limit item number
       lessened =
           record {
             starts = so-far .starts;
@@ -280,17 +280,17 @@ module _ {t : Tech} (view : View) (spots : List ℕ) (fine : GoodTech t) where
             small = so-far .small;
             closed = so-far .closed;
             least = λ good done tried is l g. omega (arith, so-far .least good done tried is l g);
-            lit = λ good done tried l g. byte-stays _ (so-far .lit good done tried l g);
+            lit = λ {p} {q} {m} good done tried l g. moves-stay near (here .vertex) number room (p .vertex) m (so-far .lit good done tried l g);
             found = lesser-found;
             bound = omega (arith, so-far .bound);
           }
 
-      pub spread-enters : Spread t view spots key settled (set near (here .vertex) 1) lesser limit item (number + 1)
+      pub spread-enters : Spread t view spots key settled lights lesser limit item (number + 1)
       spread-enters =
           spread-more lessened on is-item
           (λ q e c is l g. absurd (not-both (goal q) g (ap goal (one-next (sym (legal .leads) ∙ l .leads)))))
           (λ q e c is l g. omega (arith, is, is-key, ap key is-item, one-price (sym (legal .leads) ∙ l .leads)))
-          (λ q c l g. getD-set-same near (here .vertex) 1 0 room)
+          (λ q c l g. moves-set near (here .vertex) number room)
         where
           not-both : (b : Bool) → b ≡ false → goal next ≡ b → ⊥
           not-both b f e = true≢false (sym enters ∙ e ∙ f)
@@ -300,7 +300,7 @@ module _ {t : Tech} (view : View) (spots : List ℕ) (fine : GoodTech t) where
     module _ {near : List ℕ} {best limit item number : ℕ} (so-far : Spread t view spots key settled near best limit item number) {here next : Place}
         {distance price : ℕ} (on : GoodPlace t here) (is-item : placeCode t here ≡ item) (is-key : key item ≡ suc distance)
         (legal : Legal (systemBy t view spots) here number price next) (goes : goal next ≡ false) (low : distance + price ≤ limit)
-        (order : settled (placeCode t next) → key (placeCode t next) ≤ suc distance) {key′ : ℕ → ℕ} {settled′ : ℕ → Type 0}
+        (order : settled (placeCode t next) → key (placeCode t next) ≤ suc (distance + price)) {key′ : ℕ → ℕ} {settled′ : ℕ → Type 0}
         (eased : Eased (places t) key key′ settled (placeCode t next) (suc (distance + price)))
         (there : (c : ℕ) → c < places t → settled c → settled′ c) (back : (c : ℕ) → c < places t → settled′ c → settled c) where
       next-good : GoodPlace t next
@@ -387,9 +387,11 @@ module _ {t : Tech} (view : View) (spots : List ℕ) (fine : GoodTech t) where
 
   -- ---- what the search has found
 
-  module _ {key : ℕ → ℕ} {settled : ℕ → Type 0} {near : List ℕ} {best limit item number : ℕ}
-      (so-far : Spread t view spots key settled near best limit item number) (all : 4 ≤ number) (few : limit + 197625 < 1099511627775)
-      (rest : (c : ℕ) → c < places t → 0 < key c → settled c ⊎ (best < key c)) where
+  -- h is what is left at least from a place
+  module _ (h : Place → ℕ) {key : ℕ → ℕ} {settled : ℕ → Type 0} {near : List ℕ} {best limit item number : ℕ}
+      (so-far : Spread t view spots key settled near best limit item number) (all : 4 ≤ number) (few : limit + 2 ^ 25 < 1099511627775)
+      (near-enough : (p : Place) → h p ≤ 2 ^ 24)
+      (rest : (p : Place) (e : ℕ) → GoodPlace t p → key (placeCode t p) ≡ suc e → settled (placeCode t p) ⊎ (best < e + h p)) where
     -- the cost to each place
     abbrev costTo : Place → Cost
     costTo p = entryCost (key (placeCode t p))
@@ -399,17 +401,18 @@ module _ {t : Tech} (view : View) (spots : List ℕ) (fine : GoodTech t) where
     tried legal e = omega (arith, legal .known)
 
     -- a place within the best cost is settled
-    within-settled : {p : Place} {e : ℕ} → GoodPlace t p → key (placeCode t p) ≡ suc e → within (fin (e + 1)) (bestBy best) → settled (placeCode t p)
+    within-settled : {p : Place} {e : ℕ} → GoodPlace t p → key (placeCode t p) ≡ suc e → within (fin (e + h p)) (bestBy best) → settled (placeCode t p)
     unfolding bestBy
-    within-settled {p} {e} good is near-by = by (rest _ (code-below good) (omega (arith, is)))
+    within-settled {p} {e} good is near-by = by (rest p e good is)
       where
-        beyond : best < suc e → (b : Bool) → ltb best 1099511627775 ≡ b → within (fin (e + 1)) (cond b (fin best) inf) → ⊥
-        beyond h true test less = omega arith
-        beyond h false test less = omega (arith, ltb-false best 1099511627775 test, so-far .small _ (code-below good), is)
+        beyond : best < e + h p → (b : Bool) → ltb best 1099511627775 ≡ b → within (fin (e + h p)) (cond b (fin best) inf) → ⊥
+        beyond high true test less = omega arith
+        beyond high false test less =
+            omega (arith, ltb-false best 1099511627775 test, so-far .small _ (code-below good), is, near-enough p)
 
-        by : settled (placeCode t p) ⊎ (best < key (placeCode t p)) → settled (placeCode t p)
+        by : settled (placeCode t p) ⊎ (best < e + h p) → settled (placeCode t p)
         by (inl done) = done
-        by (inr high) = absurd (beyond (omega (arith, is)) (ltb best 1099511627775) refl near-by)
+        by (inr high) = absurd (beyond high (ltb best 1099511627775) refl near-by)
 
     -- no goal costs less
     best-within : {p q : Place} {e m c : ℕ} → GoodPlace t p → settled (placeCode t p) → key (placeCode t p) ≡ suc e
@@ -437,7 +440,7 @@ module _ {t : Tech} (view : View) (spots : List ℕ) (fine : GoodTech t) where
         by true test is = enters-by (so-far .found (ltb-true best 1099511627775 test)) (same-fin refl is)
         by false test is = absurd (inf-not-fin is)
 
-    pub spread-forward : Forward (systemBy t view spots) (GoodPlace t) (startsBy t view spots) (λ p. 1) costTo (bestBy best)
+    pub spread-forward : Forward (systemBy t view spots) (GoodPlace t) (startsBy t view spots) h costTo (bestBy best)
     spread-forward =
         record {
           starts = λ {v} h is. key-cost (so-far .starts v h (eqb-true (getD spots v 0) 1 is));

@@ -6,7 +6,7 @@ use Prim.Native.Nat.{ℕ, _+_, _^_, _≤_, _<_}
 use mathlib.Core.List.{List}
 use lib.ListN.{length, getD}
 use Rattle.paths.specs.Distances.{fin}
-use Rattle.paths.specs.Forward.{Forward}
+use Rattle.paths.specs.Forward.{LowerBound, Forward}
 use Rattle.paths.specs.Marks.{Marks, markedStart}
 use Rattle.rules.specs.Views.{View}
 use Rattle.rules.specs.Prices.{Tech}
@@ -14,19 +14,20 @@ use Rattle.rules.specs.Joins.{places}
 use Rattle.rules.specs.Places.{GoodPlace}
 use Rattle.heap.specs.Heaps.{keyOf}
 use Rattle.metal.specs.Codes.{Bare}
-use Rattle.front.specs.Fronts.{systemBy, startsBy, reachedBy, markBy}
+use Rattle.front.specs.Fronts.{systemBy, startsBy, reachedBy, atLeast, markBy}
 
 -- the slice has two words for each place, and they are zero
 pub record Blank (t : Tech) (work : List ℕ) : Type 0 where
   pub room : places t + places t ≤ length work
   pub bare : Bare (places t + places t) work
 
--- the slice has an entry for each place, and each key is small
-pub record Charted (t : Tech) (view : View) (spots work : List ℕ) (best : ℕ) : Type 0 where
+-- the slice has an entry for each place, and each key is small; no rival costs less than is left at least
+pub record Charted (t : Tech) (view : View) (spots bounds work : List ℕ) (best : ℕ) : Type 0 where
   pub room : places t ≤ length work
   pub small : (c : ℕ) → c < places t → keyOf (getD work c 0) ≤ 2 ^ 40
-  pub forward : Forward (systemBy t view spots) (GoodPlace t) (startsBy t view spots) (λ p. 1) (reachedBy t work) (fin best)
-  pub marks : Marks (systemBy t view spots) (reachedBy t work) best (GoodPlace t) (λ p. 1) (markBy t work)
+  pub low : LowerBound (systemBy t view spots) (GoodPlace t) (atLeast t bounds)
+  pub forward : Forward (systemBy t view spots) (GoodPlace t) (startsBy t view spots) (atLeast t bounds) (reachedBy t bounds work) (fin best)
+  pub marks : Marks (systemBy t view spots) (reachedBy t bounds work) best (GoodPlace t) (atLeast t bounds) (markBy t work)
 
 -- the lowest start with a mark
 abbrev pub lowestMarked : Tech → View → (spots work : List ℕ) → ℕ

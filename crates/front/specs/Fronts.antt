@@ -1,11 +1,13 @@
 -- What the entries of the work slice tell of a search from the tree.
 --     systemBy            places and moves, with an unjoined pin told by its byte
 --     startsBy            the vertices of the tree, told by their bytes
---     reachedBy           the cost to each place that has an entry
+--     leftAt, costIn      what is left at least from the place with a number, times 7; the cost that a key tells
+--     costs, reachedBy    the cost to each place that has an entry
+--     atLeast             what is left at least from a place
 --     markBy              whether a place has a mark
 --     bestBy              the cost of the cheapest goal found
 --     Searched            what the code asks of its layers
-use Prim.Native.Nat.{ℕ}
+use Prim.Native.Nat.{ℕ, zero, suc, _+_, _-_, _*_, _/_}
 use mathlib.Core.Path.{_≡_}
 use mathlib.Core.List.{List}
 use mathlib.Core.Bool.{Bool, cond}
@@ -21,10 +23,11 @@ use Rattle.rules.specs.Segments.{Place}
 use Rattle.rules.specs.Prices.{Tech}
 use Rattle.rules.specs.Steps.{step, priced}
 use Rattle.rules.specs.Walks.{startAt}
-use Rattle.rules.specs.Places.{placeCode, entryCost}
+use Rattle.rules.specs.Places.{placeCode, placeAt, entryCost}
 use Rattle.rules.specs.Structs.{techBy, TechFits}
 use Rattle.rules.specs.declared.price.Tech.{Tech as TechStruct}
 use Rattle.heap.specs.Heaps.{keyOf, slotOf}
+use Rattle.bounds.specs.Bounds.{boundAt}
 
 -- moves 0 to 3; a place on a vertex whose byte says that it is an unjoined pin is a goal
 abbrev pub systemBy : Tech → View → (spots : List ℕ) → System
@@ -40,9 +43,26 @@ systemBy t view spots =
 abbrev pub startsBy : (t : Tech) (view : View) (spots : List ℕ) → Starts (systemBy t view spots)
 startsBy t view spots = record { many = vertices (t .grid); isStart = λ v. eqb (getD spots v 0) 1; place = startAt }
 
+-- what is left at least from the place with a number, times 7
+unfoldable pub leftAt : Tech → (bounds : List ℕ) → (c : ℕ) → ℕ
+leftAt t bounds c = boundAt (t .grid) bounds (placeAt (largestMinLength (t .lines)) c .vertex)
+
+-- a key is 8 times the cost, what is left, and 1: the cost and 1 of such a key, and 0 of any other
+unfoldable pub costIn : (left key : ℕ) → ℕ
+costIn left zero = zero
+costIn left (suc k) = cond (eqb k (8 * ((k - left) / 8) + left)) (suc ((k - left) / 8)) zero
+
+-- the cost to the place with a number, and 1; 0 where it has no entry
+unfoldable pub costs : Tech → (bounds work : List ℕ) → (c : ℕ) → ℕ
+costs t bounds work c = costIn (leftAt t bounds c) (keyOf (getD work c 0))
+
 -- the cost to each place that has an entry
-unfoldable pub reachedBy : Tech → (work : List ℕ) → Place → Cost
-reachedBy t work p = entryCost (keyOf (getD work (placeCode t p) 0))
+unfoldable pub reachedBy : Tech → (bounds work : List ℕ) → Place → Cost
+reachedBy t bounds work p = entryCost (costs t bounds work (placeCode t p))
+
+-- what is left at least from a place: a place is settled where its cost with this is within the best cost
+unfoldable pub atLeast : Tech → (bounds : List ℕ) → Place → ℕ
+atLeast t bounds p = boundAt (t .grid) bounds (p .vertex) / 8 + 1
 
 -- whether a place has a mark
 unfoldable pub markBy : Tech → (work : List ℕ) → Place → Bool

@@ -2,6 +2,7 @@
 --     Entered        a move from a settled place into a goal, at the best cost
 --     Spread         every entry is the cost of a walk; the moves of settled places lower no entry, and enter no goal for less than the best cost
 --     Seeded, Seeding     the same before any place is settled, while the tree is put into the heap
+--     Told           each key tells a cost
 --     Turn           while the moves of a place are tried, after so many
 --     Between        after all moves of the settled places
 --     Ended          when the search stops
@@ -23,19 +24,20 @@ use Rattle.rules.specs.Joins.{places}
 use Rattle.rules.specs.Places.{placeCode, GoodPlace}
 use Rattle.heap.specs.Heaps.{keyOf, slotOf, In, Lowered}
 use Rattle.metal.specs.Codes.{Beyond}
-use Rattle.front.specs.Fronts.{systemBy, startsBy}
+use Rattle.front.specs.Fronts.{systemBy, startsBy, leftAt, costs}
 use Rattle.front.specs.Lists.{Done, Laid}
+use Rattle.front.specs.Bits.{HasMove, withMove}
 
 -- the key of each place by its number
 abbrev pub keys : (work : List ℕ) → ℕ → ℕ
 keys work c = keyOf (getD work c 0)
 
-module _ (t : Tech) (spots : List ℕ) where
-  -- the first vertices of the tree have their entries, and no other place has
+module _ (t : Tech) (spots bounds : List ℕ) where
+  -- the first vertices of the tree have their entries, at no cost, and no other place has
   pub record Seeded (upto : ℕ) (key : ℕ → ℕ) : Type 0 where
-    pub starts : (v : ℕ) → v < upto → getD spots v 0 ≡ 1 → key (placeCode t (startAt v)) ≡ 1
+    pub starts : (v : ℕ) → v < upto → getD spots v 0 ≡ 1 → key (placeCode t (startAt v)) ≡ suc (leftAt t bounds (placeCode t (startAt v)))
     pub only : {p : Place} → GoodPlace t p → 0 < key (placeCode t p)
-        → (key (placeCode t p) ≡ 1) × ((v : ℕ) × (v < vertices (t .grid)) × (getD spots v 0 ≡ 1) × (p ≡ startAt v))
+        → (key (placeCode t p) ≡ suc (leftAt t bounds (placeCode t p))) × ((v : ℕ) × (v < vertices (t .grid)) × (getD spots v 0 ≡ 1) × (p ≡ startAt v))
 
   -- so many vertices are asked
   pub record Seeding (found work : List ℕ) (size vertex : ℕ) : Type 0 where
@@ -73,38 +75,46 @@ module _ (t : Tech) (view : View) (spots : List ℕ) where
       pub least : {p q : Place} {e m c : ℕ} → GoodPlace t p → settled (placeCode t p) → (placeCode t p ≡ item → m < number)
           → key (placeCode t p) ≡ suc e → Legal (systemBy t view spots) p m c q → eqb (getD spots (q .vertex) 0) 2 ≡ true → best ≤ e + c
       pub lit : {p q : Place} {m c : ℕ} → GoodPlace t p → settled (placeCode t p) → (placeCode t p ≡ item → m < number)
-          → Legal (systemBy t view spots) p m c q → eqb (getD spots (q .vertex) 0) 2 ≡ true → getD near (p .vertex) 0 ≡ 1
+          → Legal (systemBy t view spots) p m c q → eqb (getD spots (q .vertex) 0) 2 ≡ true
+          → HasMove (getD near (p .vertex) 0) m
       pub found : best < 1099511627775 → Entered best
       pub bound : best ≤ 1099511627775
 
-  -- the place that is being settled has the greatest key of the settled ones; none of these has a mark
-  pub record Turn (near work : List ℕ) (size settled best item distance number : ℕ) : Type 0 where
-    pub laid : Laid (places t) size settled (suc distance) work
-    pub spread : Spread (keys work) (Done (places t) work) near best (197625 * settled) item number
-    pub known : item < places t
-    pub done : Done (places t) work item
-    pub key : keys work item ≡ suc distance
-    pub below : distance ≤ 197625 * (settled - 1)
-    pub plain : (c : ℕ) → c < places t → Done (places t) work c → slotOf (getD work c 0) ≡ 1048575
-    pub bytes : length near ≡ 16384
+  module _ (bounds : List ℕ) where
+    -- each key tells a cost
+    abbrev Told : (work : List ℕ) → Type 0
+    Told work = (c : ℕ) → c < places t → 0 < keys work c → 0 < costs t bounds work c
 
-  -- a place costs at most 197,625 more than one settled before it
-  pub record Between (near work : List ℕ) (size settled best : ℕ) : Type 0 where
-    pub last : ℕ
-    pub laid : Laid (places t) size settled last work
-    pub spread : Spread (keys work) (Done (places t) work) near best (197625 * settled) 0 4
-    pub plain : (c : ℕ) → c < places t → Done (places t) work c → slotOf (getD work c 0) ≡ 1048575
-    pub bytes : length near ≡ 16384
+    -- the place that is being settled has the greatest key of the settled ones; none of these has a mark
+    pub record Turn (near work : List ℕ) (size settled best item distance number : ℕ) : Type 0 where
+      pub laid : Laid (places t) size settled (suc (8 * distance + leftAt t bounds item)) work
+      pub told : Told work
+      pub spread : Spread (costs t bounds work) (Done (places t) work) near best (197625 * settled) item number
+      pub known : item < places t
+      pub done : Done (places t) work item
+      pub key : keys work item ≡ suc (8 * distance + leftAt t bounds item)
+      pub below : distance ≤ 197625 * (settled - 1)
+      pub plain : (c : ℕ) → c < places t → Done (places t) work c → slotOf (getD work c 0) ≡ 1048575
+      pub bytes : length near ≡ 16384
 
-  -- no open place is within the best cost
-  pub record Ended (near work : List ℕ) (size settled best : ℕ) : Type 0 where
-    pub between : Between near work size settled best
-    pub rest : (c : ℕ) → c < places t → In work (places t) c → best < keys work c
+    -- a place costs at most 197,625 more than one settled before it
+    pub record Between (near work : List ℕ) (size settled best : ℕ) : Type 0 where
+      pub last : ℕ
+      pub laid : Laid (places t) size settled last work
+      pub told : Told work
+      pub spread : Spread (costs t bounds work) (Done (places t) work) near best (197625 * settled) 0 4
+      pub plain : (c : ℕ) → c < places t → Done (places t) work c → slotOf (getD work c 0) ≡ 1048575
+      pub bytes : length near ≡ 16384
 
-  -- what trying one move does, to the heap's size, the best cost, the bytes of places near a goal and the work slice
-  pub record Reach (p : Place) (distance : ℕ) (move : Step Place) (size best : ℕ) (near work : List ℕ) (size′ best′ : ℕ) (near′ work′ : List ℕ) : Type 0 where
-    pub stopped : move ≡ blocked → (size′ ≡ size) × (best′ ≡ best) × (near′ ≡ near) × (work′ ≡ work)
-    pub enters : {c : ℕ} {q : Place} → move ≡ to c q → eqb (getD spots (q .vertex) 0) 2 ≡ true
-        → (size′ ≡ size) × (best′ ≡ best - (best - (distance + c))) × (near′ ≡ set near (p .vertex) 1) × (work′ ≡ work)
-    pub goes : {c : ℕ} {q : Place} → move ≡ to c q → eqb (getD spots (q .vertex) 0) 2 ≡ false
-        → Lowered (places t) size (placeCode t q) (distance + c) work work′ size′ × (best′ ≡ best) × (near′ ≡ near)
+    -- no open place is within the best cost
+    pub record Ended (near work : List ℕ) (size settled best : ℕ) : Type 0 where
+      pub between : Between near work size settled best
+      pub rest : (c : ℕ) → c < places t → In work (places t) c → 8 * best < keys work c
+
+    -- what trying one move does, to the heap's size, the best cost, the bytes of moves that enter a goal and the work slice
+    pub record Reach (p : Place) (distance number : ℕ) (move : Step Place) (size best : ℕ) (near work : List ℕ) (size′ best′ : ℕ) (near′ work′ : List ℕ) : Type 0 where
+      pub stopped : move ≡ blocked → (size′ ≡ size) × (best′ ≡ best) × (near′ ≡ near) × (work′ ≡ work)
+      pub enters : {c : ℕ} {q : Place} → move ≡ to c q → eqb (getD spots (q .vertex) 0) 2 ≡ true
+          → (size′ ≡ size) × (best′ ≡ best - (best - (distance + c))) × (near′ ≡ set near (p .vertex) (withMove (getD near (p .vertex) 0) number)) × (work′ ≡ work)
+      pub goes : {c : ℕ} {q : Place} → move ≡ to c q → eqb (getD spots (q .vertex) 0) 2 ≡ false
+          → Lowered (places t) size (placeCode t q) (8 * (distance + c) + leftAt t bounds (placeCode t q)) work work′ size′ × (best′ ≡ best) × (near′ ≡ near)

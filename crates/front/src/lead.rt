@@ -9,9 +9,13 @@ ghost use Rattle.rules.specs.Joins.{places};
 ghost use Rattle.rules.specs.Places.{placeCode, GoodPlace};
 ghost use Rattle.rules.specs.Structs.{techBy, placeOf};
 ghost use Rattle.heap.specs.Heaps.{keyOf};
-ghost use Rattle.front.specs.Fronts.{Searched};
-ghost use Rattle.front.specs.Leads.{leadBy, lowestBy};
+ghost use Rattle.bounds.specs.Bounds.{SmallBounds};
+ghost use Rattle.front.specs.Fronts.{costs, Searched};
+ghost use Rattle.front.specs.Leads.{leadBy, lowestBy, OnlyMoves};
+use crate::moves::ALL_MOVES;
+use crate::moves::has_move;
 use crate::places::code_of;
+use bounds::bound::bound_at;
 use heap::cells::SLOTS;
 use heap::cells::key_of;
 use rules::price::Tech;
@@ -28,6 +32,7 @@ pub fn leads(
     tech: Tech,
     seen: &[u8; 16384],
     spots: &[u8; 16384],
+    bounds: &[u64; 528],
     largest: usize,
     work: &[u64],
     place: Place,
@@ -35,8 +40,9 @@ pub fn leads(
     distance: u64,
     best: u64,
 ) -> bool
-    requires { ⌜ (Searched tech largest) × (GoodPlace (techBy tech) (placeOf place)) × (places (techBy tech) ≤ length (now work)) × (distance < 2 ^ 40) ⌝ }
-    ensures { λ r. ⌜ r ≡ leadBy (techBy tech) (viewBy (gridOf (tech .grid)) (now (seen .entry))) (now (spots .entry)) (now (work .entry)) best distance
+    requires { ⌜ (Searched tech largest) × (GoodPlace (techBy tech) (placeOf place)) × (places (techBy tech) ≤ length (now work)) × (distance < 2 ^ 40)
+        × (SmallBounds (now bounds)) ⌝ }
+    ensures { λ r. ⌜ r ≡ leadBy (techBy tech) (viewBy (gridOf (tech .grid)) (now (seen .entry))) (now (spots .entry)) (now (bounds .entry)) (now (work .entry)) best distance
         (priced (step (techBy tech) (viewBy (gridOf (tech .grid)) (now (seen .entry))) (placeOf place) number)) ⌝ }
 {
     let Stepped::Legal(made) = step(tech, seen, place, number) else {
@@ -49,40 +55,83 @@ pub fn leads(
         return cost == best;
     }
     let code = code_of(largest, next);
-    work[code] == (cost + 1) * SLOTS + MARKED
+    let word = work[code];
+    if word % SLOTS != MARKED {
+        return false;
+    }
+    let left = bound_at(bounds, tech.grid, vertex);
+    word == (8 * cost + left + 1) * SLOTS + MARKED
 }
 
-// The lowest move that does, from a place that the search has come to; 4 where none does.
+// The lowest move of a byte that does, from a place that the search has come to; 4 where none does. No other move may lead so.
+pub fn lowest_among(
+    tech: Tech,
+    seen: &[u8; 16384],
+    spots: &[u8; 16384],
+    bounds: &[u64; 528],
+    largest: usize,
+    work: &[u64],
+    place: Place,
+    moves: u8,
+    best: u64,
+) -> usize
+    requires { ⌜ (Searched tech largest) × (GoodPlace (techBy tech) (placeOf place)) × (places (techBy tech) ≤ length (now work))
+        × (0 < costs (techBy tech) (now bounds) (now work) (placeCode (techBy tech) (placeOf place)))
+        × (keyOf (getD (now work) (placeCode (techBy tech) (placeOf place)) 0) ≤ 2 ^ 40) × (SmallBounds (now bounds)) ⌝ }
+    requires { ⌜ ((e : ℕ) → costs (techBy tech) (now bounds) (now work) (placeCode (techBy tech) (placeOf place)) ≡ suc e
+        → OnlyMoves (techBy tech) (viewBy (gridOf (tech .grid)) (now seen)) (now spots) (now bounds) (now work) best (placeOf place) e moves) ⌝ }
+    ensures { λ r. ⌜ ((e : ℕ) → costs (techBy tech) (now (bounds .entry)) (now (work .entry)) (placeCode (techBy tech) (placeOf place)) ≡ suc e
+        → r ≡ lowestBy (techBy tech) (viewBy (gridOf (tech .grid)) (now (seen .entry))) (now (spots .entry)) (now (bounds .entry)) (now (work .entry)) best (placeOf place) e) ⌝ }
+{
+    let left = bound_at(bounds, tech.grid, place.vertex);
+    let distance = (key_of(work, code_of(largest, place)) - 1 - left) / 8;
+    for number in 0..4 {
+        if has_move(moves, number) {
+            if leads(
+                tech,
+                seen,
+                spots,
+                bounds,
+                largest,
+                work,
+                place,
+                number,
+                distance,
+                best,
+            ) {
+                return number;
+            }
+        }
+    }
+    4
+}
+
+// The lowest of all four.
 pub fn lowest_lead(
     tech: Tech,
     seen: &[u8; 16384],
     spots: &[u8; 16384],
+    bounds: &[u64; 528],
     largest: usize,
     work: &[u64],
     place: Place,
     best: u64,
 ) -> usize
     requires { ⌜ (Searched tech largest) × (GoodPlace (techBy tech) (placeOf place)) × (places (techBy tech) ≤ length (now work))
-        × (0 < keyOf (getD (now work) (placeCode (techBy tech) (placeOf place)) 0))
-        × (keyOf (getD (now work) (placeCode (techBy tech) (placeOf place)) 0) ≤ 2 ^ 40) ⌝ }
-    ensures { λ r. ⌜ ((e : ℕ) → keyOf (getD (now (work .entry)) (placeCode (techBy tech) (placeOf place)) 0) ≡ suc e
-        → r ≡ lowestBy (techBy tech) (viewBy (gridOf (tech .grid)) (now (seen .entry))) (now (spots .entry)) (now (work .entry)) best (placeOf place) e) ⌝ }
+        × (0 < costs (techBy tech) (now bounds) (now work) (placeCode (techBy tech) (placeOf place)))
+        × (keyOf (getD (now work) (placeCode (techBy tech) (placeOf place)) 0) ≤ 2 ^ 40) × (SmallBounds (now bounds)) ⌝ }
+    ensures { λ r. ⌜ ((e : ℕ) → costs (techBy tech) (now (bounds .entry)) (now (work .entry)) (placeCode (techBy tech) (placeOf place)) ≡ suc e
+        → r ≡ lowestBy (techBy tech) (viewBy (gridOf (tech .grid)) (now (seen .entry))) (now (spots .entry)) (now (bounds .entry)) (now (work .entry)) best (placeOf place) e) ⌝ }
 {
-    let distance = key_of(work, code_of(largest, place)) - 1;
-    for number in 0..4 {
-        if leads(
-            tech,
-            seen,
-            spots,
-            largest,
-            work,
-            place,
-            number,
-            distance,
-            best,
-        ) {
-            return number;
-        }
-    }
-    4
+    lowest_among(
+        tech,
+        seen,
+        spots,
+        bounds,
+        largest,
+        work,
+        place,
+        ALL_MOVES,
+        best,
+    )
 }

@@ -3,6 +3,7 @@
 pub mod clear;
 pub mod lead;
 pub mod mark;
+pub mod moves;
 pub mod places;
 pub mod reach;
 pub mod seed;

@@ -1,8 +1,7 @@
 // The places of cheapest joins get marks: from the last settled place to the first, one gets a mark where a move leads on. Each price is at least
 // 1, so that a place leads on only to places settled after it, and one pass suffices.
 ghost use mathlib.Core.Path.{_≡_};
-ghost use mathlib.Core.Bool.{true, false};
-ghost use Prim.Native.Nat.{ℕ, _+_, _-_, _*_, _/_, _≤_, _<_, _^_};
+ghost use Prim.Native.Nat.{ℕ, suc, _+_, _-_, _*_, _/_, _%_, _≤_, _<_, _^_};
 ghost use lib.ListN.{length, getD, set};
 ghost use Rattle.job.specs.Grid.{vertices};
 ghost use Rattle.job.specs.Structs.{Sized, gridOf};
@@ -13,14 +12,18 @@ ghost use Rattle.rules.specs.Seen.{viewBy};
 ghost use Rattle.rules.specs.Joins.{places};
 ghost use Rattle.rules.specs.Places.{placeAt};
 ghost use Rattle.rules.specs.Structs.{techBy};
-ghost use Rattle.front.specs.Fronts.{Searched};
+ghost use Rattle.bounds.specs.Bounds.{Bounding, SmallBounds};
+ghost use Rattle.front.specs.Fronts.{costs, Searched};
 ghost use Rattle.front.specs.Lists.{Laid};
 ghost use Rattle.front.specs.Spreads.{Ended};
-ghost use Rattle.front.specs.Leads.{Asked};
+ghost use Rattle.front.specs.Leads.{OnlyMoves, Answered};
+ghost use Rattle.front.specs.Bits.{HasMove};
 ghost use Rattle.front.specs.Charts.{Charted, lowestMarked};
 use crate::lead::MARKED;
-use crate::lead::lowest_lead;
+use crate::lead::lowest_among;
+use crate::moves::with_move;
 use crate::places::place_of;
+use bounds::bound::bound_at;
 use heap::cells::SLOTS;
 use heap::cells::key_of;
 use job::grid::Grid;
@@ -28,24 +31,24 @@ use rules::price::Tech;
 use rules::track::Entered;
 use rules::track::entered_by;
 
-// Lights the vertex that a move enters.
+// Sets the bit of the move back, at the vertex that a move enters.
 fn light_one(near: &mut [u8; 16384], grid: Grid, v: usize, number: usize)
-    requires { ⌜ (Sized grid) × (v < vertices (gridOf grid)) × (length (now near) ≡ 16384) ⌝ }
-    ensures lit { λ _. ⌜ ((u : ℕ) → entered (gridOf grid) v number ≡ at u → getD (now (near .exit)) u 0 ≡ 1) ⌝ }
-    ensures stays { λ _. ⌜ ((u : ℕ) → getD (now (near .entry)) u 0 ≡ 1 → getD (now (near .exit)) u 0 ≡ 1) ⌝ }
+    requires { ⌜ (Sized grid) × (v < vertices (gridOf grid)) × (length (now near) ≡ 16384) × (number < 4) ⌝ }
+    ensures lit { λ _. ⌜ ((u : ℕ) → entered (gridOf grid) v number ≡ at u → HasMove (getD (now (near .exit)) u 0) (number + 1 - 2 * (number % 2))) ⌝ }
+    ensures stays { λ _. ⌜ ((u m : ℕ) → HasMove (getD (now (near .entry)) u 0) m → HasMove (getD (now (near .exit)) u 0) m) ⌝ }
     ensures long { λ _. ⌜ length (now (near .exit)) ≡ 16384 ⌝ }
 {
     let Entered::At(u) = entered_by(grid, v, number) else {
         return;
     };
-    near[u] = 1;
+    near[u] = with_move(near[u], number + 1 - 2 * (number % 2));
 }
 
-// Lights every neighbour of a vertex: from there a move may lead to it.
+// Sets the bits of the moves that enter a vertex: each may lead on to it.
 fn light(near: &mut [u8; 16384], grid: Grid, v: usize)
     requires { ⌜ (Sized grid) × (v < vertices (gridOf grid)) × (length (now near) ≡ 16384) ⌝ }
-    ensures lit { λ _. ⌜ ((u m : ℕ) → u < vertices (gridOf grid) → entered (gridOf grid) u m ≡ at v → getD (now (near .exit)) u 0 ≡ 1) ⌝ }
-    ensures stays { λ _. ⌜ ((u : ℕ) → getD (now (near .entry)) u 0 ≡ 1 → getD (now (near .exit)) u 0 ≡ 1) ⌝ }
+    ensures lit { λ _. ⌜ ((u m : ℕ) → u < vertices (gridOf grid) → entered (gridOf grid) u m ≡ at v → HasMove (getD (now (near .exit)) u 0) m) ⌝ }
+    ensures stays { λ _. ⌜ ((u m : ℕ) → HasMove (getD (now (near .entry)) u 0) m → HasMove (getD (now (near .exit)) u 0) m) ⌝ }
     ensures long { λ _. ⌜ length (now (near .exit)) ≡ 16384 ⌝ }
 {
     for number in 0..4 {
@@ -61,57 +64,65 @@ fn put_mark(work: &mut [u64], item: usize)
     work[item] = work[item] / SLOTS * SLOTS + MARKED;
 }
 
-// Marks the place of a number where a move leads on, and answers whether it did. Only from lit vertices a move may lead on.
+// The lower start: a place of the tree costs nothing.
+fn lower_start(
+    tech: Tech,
+    bounds: &[u64; 528],
+    largest: usize,
+    work: &[u64],
+    item: usize,
+    start: usize,
+) -> usize
+    requires { ⌜ (Searched tech largest) × (item < places (techBy tech)) × (places (techBy tech) ≤ length (now work)) × (SmallBounds (now bounds)) ⌝ }
+    ensures other { λ r. ⌜ ((costs (techBy tech) (now (bounds .entry)) (now (work .entry)) item ≡ 1 → ⊥) → r ≡ start) ⌝ }
+    ensures lower { λ r. ⌜ (costs (techBy tech) (now (bounds .entry)) (now (work .entry)) item ≡ 1 → r ≡ start - (start - item / (2 * (largest + 1)))) ⌝ }
+{
+    let vertex = item / (2 * (largest + 1));
+    let left = bound_at(bounds, tech.grid, vertex);
+    if key_of(work, item) != left + 1 {
+        return start;
+    }
+    if vertex < start { vertex } else { start }
+}
+
+// Marks the place of a number where a move of a byte leads on, and answers the lower start. No other move does.
 fn mark_place(
     tech: Tech,
     seen: &[u8; 16384],
     spots: &[u8; 16384],
+    bounds: &[u64; 528],
     largest: usize,
     near: &mut [u8; 16384],
     work: &mut [u64],
     item: usize,
+    moves: u8,
     best: u64,
-) -> bool
+    start: usize,
+) -> usize
     requires { ⌜ (Searched tech largest) × (item < places (techBy tech)) × (places (techBy tech) ≤ length (now work)) × (length (now near) ≡ 16384)
-        × (0 < keyOf (getD (now work) item 0)) × (keyOf (getD (now work) item 0) ≤ 2 ^ 40) ⌝ }
-    ensures { λ r. ⌜ Asked (techBy tech) (viewBy (gridOf (tech .grid)) (now (seen .entry))) (now (spots .entry)) best item (placeAt largest item)
-        (now (near .entry)) (now (work .entry)) (now (near .exit)) (now (work .exit)) r ⌝ }
+        × (0 < costs (techBy tech) (now bounds) (now work) item) × (keyOf (getD (now work) item 0) ≤ 2 ^ 40) × (SmallBounds (now bounds)) ⌝ }
+    requires { ⌜ ((e : ℕ) → costs (techBy tech) (now bounds) (now work) item ≡ suc e
+        → OnlyMoves (techBy tech) (viewBy (gridOf (tech .grid)) (now seen)) (now spots) (now bounds) (now work) best (placeAt largest item) e moves) ⌝ }
+    ensures { λ r. ⌜ Answered (techBy tech) (viewBy (gridOf (tech .grid)) (now (seen .entry))) (now (spots .entry)) (now (bounds .entry)) best item
+        (placeAt largest item) (now (near .entry)) (now (work .entry)) (now (near .exit)) (now (work .exit)) start r ⌝ }
 {
-    let vertex = item / (2 * (largest + 1));
-    if near[vertex] != 1 {
-        return false;
-    }
     let place = place_of(largest, item);
-    if 4 <= lowest_lead(tech, seen, spots, largest, work, place, best) {
-        return false;
+    let lead = lowest_among(tech, seen, spots, bounds, largest, work, place, moves, best);
+    if 4 <= lead {
+        return start;
     }
     put_mark(work, item);
-    light(near, tech.grid, vertex);
-    true
-}
-
-// The lower start: a place of the tree has the key 1.
-fn lower_start(work: &[u64], largest: usize, item: usize, marked: bool, start: usize) -> usize
-    requires { ⌜ (item < length (now work)) × (largest ≤ 15) ⌝ }
-    ensures other { λ r. ⌜ ((marked ≡ true → keyOf (getD (now (work .entry)) item 0) ≡ 1 → ⊥) → r ≡ start) ⌝ }
-    ensures lower { λ r. ⌜ (marked ≡ true → keyOf (getD (now (work .entry)) item 0) ≡ 1 → r ≡ start - (start - item / (2 * (largest + 1)))) ⌝ }
-{
-    if !marked {
-        return start;
-    }
-    if key_of(work, item) != 1 {
-        return start;
-    }
-    let vertex = item / (2 * (largest + 1));
-    if vertex < start { vertex } else { start }
+    light(near, tech.grid, place.vertex);
+    lower_start(tech, bounds, largest, work, item, start)
 }
 
 // Marks all places of cheapest joins after a search that found an unjoined pin, and answers the lowest vertex of the tree whose place has a mark.
-// Before it no place has one.
+// Before it no place has one. Only the moves of a vertex's byte may lead on.
 pub fn mark(
     tech: Tech,
     seen: &[u8; 16384],
     spots: &[u8; 16384],
+    bounds: &[u64; 528],
     largest: usize,
     near: &mut [u8; 16384],
     work: &mut [u64],
@@ -120,8 +131,9 @@ pub fn mark(
     best: u64,
 ) -> usize
     requires { ⌜ (Searched tech largest) × (n ≡ places (techBy tech)) × (best < 1099511627775) × ((size : ℕ)
-        × (Ended (techBy tech) (viewBy (gridOf (tech .grid)) (now seen)) (now spots) (now near) (now work) size settled best)) ⌝ }
-    ensures charted { λ _. ⌜ Charted (techBy tech) (viewBy (gridOf (tech .grid)) (now (seen .entry))) (now (spots .entry)) (now (work .exit)) best ⌝ }
+        × (Ended (techBy tech) (viewBy (gridOf (tech .grid)) (now seen)) (now spots) (now bounds) (now near) (now work) size settled best))
+        × (Bounding (techBy tech) (now spots) (now bounds)) × (SmallBounds (now bounds)) ⌝ }
+    ensures charted { λ _. ⌜ Charted (techBy tech) (viewBy (gridOf (tech .grid)) (now (seen .entry))) (now (spots .entry)) (now (bounds .entry)) (now (work .exit)) best ⌝ }
     ensures start { λ r. ⌜ r ≡ lowestMarked (techBy tech) (viewBy (gridOf (tech .grid)) (now (seen .entry))) (now (spots .entry)) (now (work .exit)) ⌝ }
     ensures laid { λ _. ⌜ ((size last : ℕ) → Laid n size settled last (now (work .entry)) → Laid n size settled last (now (work .exit))) ⌝ }
     ensures kept { λ _. ⌜ Beyond (n + n) (now (work .exit)) (now (work .entry)) ⌝ }
@@ -131,8 +143,23 @@ pub fn mark(
     while 0 < left {
         left -= 1;
         let item = work[n + n - 1 - left] as usize;
-        let marked = mark_place(tech, seen, spots, largest, near, work, item, best);
-        start = lower_start(work, largest, item, marked, start);
+        let vertex = item / (2 * (largest + 1));
+        let moves = near[vertex];
+        if moves != 0 {
+            start = mark_place(
+                tech,
+                seen,
+                spots,
+                bounds,
+                largest,
+                near,
+                work,
+                item,
+                moves,
+                best,
+                start,
+            );
+        }
     }
     start
 }

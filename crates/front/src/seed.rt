@@ -1,4 +1,4 @@
-// The tree, put into the heap at no cost.
+// The tree, put into the heap: it costs nothing.
 ghost use mathlib.Core.Path.{_≡_};
 ghost use mathlib.Core.List.{List};
 ghost use mathlib.Core.Bool.{false};
@@ -12,10 +12,12 @@ ghost use Rattle.rules.specs.Joins.{places};
 ghost use Rattle.rules.specs.Walks.{startAt};
 ghost use Rattle.rules.specs.Places.{placeCode};
 ghost use Rattle.rules.specs.Structs.{techBy};
-ghost use Rattle.front.specs.Fronts.{Searched};
+ghost use Rattle.bounds.specs.Bounds.{SmallBounds};
+ghost use Rattle.front.specs.Fronts.{leftAt, Searched};
 ghost use Rattle.front.specs.Lists.{Laid};
 ghost use Rattle.front.specs.Spreads.{keys, Seeded, Seeding};
 use crate::places::code_of;
+use bounds::bound::bound_at;
 use heap::lower;
 use rules::price::Tech;
 use rules::segment::Segment;
@@ -26,16 +28,18 @@ use tree::ON_TREE;
 fn seed_vertex(
     tech: Tech,
     spots: &[u8; 16384],
+    bounds: &[u64; 528],
     largest: usize,
     work: &mut [u64],
     n: usize,
     size: usize,
     vertex: usize,
 ) -> usize
-    requires { ⌜ (Searched tech largest) × (n ≡ places (techBy tech)) × (Heaped n size (now work)) × (vertex < vertices (gridOf (tech .grid))) ⌝ }
+    requires { ⌜ (Searched tech largest) × (n ≡ places (techBy tech)) × (Heaped n size (now work)) × (vertex < vertices (gridOf (tech .grid)))
+        × (SmallBounds (now bounds)) ⌝ }
     ensures off { λ r. ⌜ ((getD (now (spots .entry)) vertex 0 ≡ 1 → ⊥) → (r ≡ size) × (now (work .exit) ≡ now (work .entry))) ⌝ }
     ensures on { λ r. ⌜ (getD (now (spots .entry)) vertex 0 ≡ 1
-        → Lowered n size (placeCode (techBy tech) (startAt vertex)) 0 (now (work .entry)) (now (work .exit)) r) ⌝ }
+        → Lowered n size (placeCode (techBy tech) (startAt vertex)) (leftAt (techBy tech) (now (bounds .entry)) (placeCode (techBy tech) (startAt vertex))) (now (work .entry)) (now (work .exit)) r) ⌝ }
 {
     if spots[vertex] != ON_TREE {
         return size;
@@ -45,40 +49,40 @@ fn seed_vertex(
         segment: Segment::Paid,
     };
     let code = code_of(largest, place);
-    lower(work, n, size, code, 0)
-}
-
-// A byte as a number.
-fn wide(byte: u8) -> usize
-    ensures { λ r. ⌜ (r ≡ byte) × (r < 256) ⌝ }
-{
-    byte as usize
+    lower(work, n, size, code, bound_at(bounds, tech.grid, vertex))
 }
 
 // Whether a block of vertices has a byte that is not 0: most have none, and are passed over.
 fn some_in(spots: &[u8; 16384], from: usize) -> bool
-    requires { ⌜ from + 64 ≤ 16384 ⌝ }
-    ensures { λ r. ⌜ (r ≡ false → (v : ℕ) → from ≤ v → v < from + 64 → getD (now (spots .entry)) v 0 ≡ 0) ⌝ }
+    requires { ⌜ from + 128 ≤ 16384 ⌝ }
+    ensures { λ r. ⌜ (r ≡ false → (v : ℕ) → from ≤ v → v < from + 128 → getD (now (spots .entry)) v 0 ≡ 0) ⌝ }
 {
-    let mut sum: usize = 0;
-    for i in 0..64 {
-        sum += wide(spots[from + i]);
+    let mut some: u8 = 0;
+    for i in 0..128 {
+        if spots[from + i] != 0 {
+            some = 1;
+        }
     }
-    sum != 0
+    some != 0
 }
 
 // Where the block of a vertex ends.
 fn block_end(from: usize, count: usize) -> usize
     requires { ⌜ from ≤ 16384 ⌝ }
-    ensures { λ r. ⌜ r ≡ count - (count - (from + 64)) ⌝ }
+    ensures { λ r. ⌜ r ≡ count - (count - (from + 128)) ⌝ }
 {
-    if count < from + 64 { count } else { from + 64 }
+    if count < from + 128 {
+        count
+    } else {
+        from + 128
+    }
 }
 
 // The vertices from one to another.
 fn seed_block(
     tech: Tech,
     spots: &[u8; 16384],
+    bounds: &[u64; 528],
     largest: usize,
     work: &mut [u64],
     n: usize,
@@ -86,26 +90,34 @@ fn seed_block(
     from: usize,
     to: usize,
 ) -> usize
-    requires { ⌜ (Searched tech largest) × (n ≡ places (techBy tech)) × (from + 64 ≤ 16384) × (from ≤ to) × (to ≤ from + 64)
-        × (to ≤ vertices (gridOf (tech .grid))) × ((found : List ℕ) × Seeding (techBy tech) (now spots) found (now work) before from) ⌝ }
-    ensures { λ r. ⌜ ((found : List ℕ) → Seeding (techBy tech) (now (spots .entry)) found (now (work .entry)) before from
-        → Seeding (techBy tech) (now (spots .entry)) found (now (work .exit)) r to) ⌝ }
+    requires { ⌜ (Searched tech largest) × (n ≡ places (techBy tech)) × (from + 128 ≤ 16384) × (from ≤ to) × (to ≤ from + 128)
+        × (to ≤ vertices (gridOf (tech .grid))) × ((found : List ℕ) × Seeding (techBy tech) (now spots) (now bounds) found (now work) before from) × (SmallBounds (now bounds)) ⌝ }
+    ensures { λ r. ⌜ ((found : List ℕ) → Seeding (techBy tech) (now (spots .entry)) (now (bounds .entry)) found (now (work .entry)) before from
+        → Seeding (techBy tech) (now (spots .entry)) (now (bounds .entry)) found (now (work .exit)) r to) ⌝ }
 {
     let mut size = before;
     if !some_in(spots, from) {
         return size;
     }
     for vertex in from..to {
-        size = seed_vertex(tech, spots, largest, work, n, size, vertex);
+        size = seed_vertex(tech, spots, bounds, largest, work, n, size, vertex);
     }
     size
 }
 
 // Answers the heap's size. The needed part of the slice is lent zero.
-pub fn seed(tech: Tech, spots: &[u8; 16384], largest: usize, work: &mut [u64], n: usize) -> usize
-    requires { ⌜ (Searched tech largest) × (n ≡ places (techBy tech)) × (n + n ≤ length (now work)) × (Bare (n + n) (now work)) ⌝ }
+pub fn seed(
+    tech: Tech,
+    spots: &[u8; 16384],
+    bounds: &[u64; 528],
+    largest: usize,
+    work: &mut [u64],
+    n: usize,
+) -> usize
+    requires { ⌜ (Searched tech largest) × (n ≡ places (techBy tech)) × (n + n ≤ length (now work)) × (Bare (n + n) (now work))
+        × (SmallBounds (now bounds)) ⌝ }
     ensures laid { λ r. ⌜ Laid n r 0 0 (now (work .exit)) ⌝ }
-    ensures seeded { λ _. ⌜ Seeded (techBy tech) (now (spots .entry)) (vertices (gridOf (tech .grid))) (keys (now (work .exit))) ⌝ }
+    ensures seeded { λ _. ⌜ Seeded (techBy tech) (now (spots .entry)) (now (bounds .entry)) (vertices (gridOf (tech .grid))) (keys (now (work .exit))) ⌝ }
     ensures kept { λ _. ⌜ Beyond (n + n) (now (work .exit)) (now (work .entry)) ⌝ }
 {
     let count = tech.grid.vertices();
@@ -113,7 +125,7 @@ pub fn seed(tech: Tech, spots: &[u8; 16384], largest: usize, work: &mut [u64], n
     let mut from = 0;
     while from < count {
         let to = block_end(from, count);
-        size = seed_block(tech, spots, largest, work, n, size, from, to);
+        size = seed_block(tech, spots, bounds, largest, work, n, size, from, to);
         from = to;
     }
     size

@@ -1,4 +1,4 @@
-// The search: places are settled in the order of their cost, until no open one is below the cheapest goal found.
+// The search: places are settled in the order of their cost with what is left at least, until no open one is below the cheapest goal found.
 ghost use mathlib.Core.Path.{_≡_};
 ghost use mathlib.Core.List.{List};
 ghost use Prim.Native.Nat.{ℕ, _+_, _-_, _≤_, _<_};
@@ -10,6 +10,7 @@ ghost use Rattle.metal.specs.Codes.{Beyond, Bare};
 ghost use Rattle.rules.specs.Seen.{viewBy};
 ghost use Rattle.rules.specs.Joins.{places};
 ghost use Rattle.rules.specs.Structs.{techBy};
+ghost use Rattle.bounds.specs.Bounds.{Bounding, SmallBounds};
 ghost use Rattle.front.specs.Fronts.{Searched};
 ghost use Rattle.front.specs.Spreads.{Ended};
 use crate::reach::Front;
@@ -48,26 +49,27 @@ pub fn settle(
     lows: &[u8; 16384],
     highs: &[u8; 16384],
     spots: &[u8; 16384],
+    bounds: &[u64; 528],
     largest: usize,
     near: &mut [u8; 16384],
     work: &mut [u64],
     n: usize,
 ) -> Found
     requires { ⌜ (Searched tech largest) × (n ≡ places (techBy tech)) × (n + n ≤ length (now work)) × (Bare (n + n) (now work))
-        × (length (now near) ≡ 16384) ⌝ }
+        × (length (now near) ≡ 16384) × (Bounding (techBy tech) (now spots) (now bounds)) × (SmallBounds (now bounds)) ⌝ }
     requires { ⌜ Prepared (techBy tech) (viewBy (gridOf (tech .grid)) (now seen)) (now rates) (now ground) (now lows) (now highs) ⌝ }
-    ensures found { λ r. ⌜ Ended (techBy tech) (viewBy (gridOf (tech .grid)) (now (seen .entry))) (now (spots .entry)) (now (near .exit)) (now (work .exit))
+    ensures found { λ r. ⌜ Ended (techBy tech) (viewBy (gridOf (tech .grid)) (now (seen .entry))) (now (spots .entry)) (now (bounds .entry)) (now (near .exit)) (now (work .exit))
         (r .size) (r .settled) (r .best) ⌝ }
     ensures kept { λ _. ⌜ Beyond (n + n) (now (work .exit)) (now (work .entry)) ⌝ }
 {
     let mut front = Front {
-        size: seed(tech, spots, largest, work, n),
+        size: seed(tech, spots, bounds, largest, work, n),
         best: NONE,
     };
     let mut settled = 0;
     while 0 < front.size {
-        let distance = key_at(work, n, 0) - 1;
-        if front.best <= distance {
+        let top = key_at(work, n, 0) - 1;
+        if 8 * front.best <= top {
             return Found {
                 size: front.size,
                 settled,
@@ -88,12 +90,13 @@ pub fn settle(
             lows,
             highs,
             spots,
+            bounds,
             largest,
             near,
             work,
             n,
             item,
-            distance,
+            top,
             rest,
         );
     }

@@ -13,7 +13,7 @@
 --     start-dist                                  a table has the best start that `dist` has
 --     start-first, start-taken, taken-only        following a table from the best start is the join that is taken, and the only one
 -- By a search forward from the starts (specs/Forward, specs/Marks):
---     one-bounds                                  every rival costs at least 1, the lower bound of a plain search
+--     one-bounds                                  every rival costs at least 1
 --     forward-least, forward-some                 no rival from a start costs less than the search found, and some join costs that
 --     forward-none, some-start, start-best        the best start: none, or the lowest on a cheapest join
 --     keeps-leads, leads-keeps                    on a cheapest join the moves that keep the cost to go are those that lead on

@@ -1,11 +1,10 @@
 -- Following a table gives the first of the cheapest routes.
 --     follow-route      it is a route, at the table's cost
 --     follow-short      it has fewer moves than there are places
---     entry-cost        a finite entry is at most the dearest price for each place
 --     follow-first      no route of that cost has moves that come before
-use Prim.Native.Nat.{ℕ, zero, suc, _+_, _*_, _≤_, _<_}
+use Prim.Native.Nat.{ℕ, zero, suc, _+_, _≤_, _<_}
 use native.Mathlib.Omega.{arith}
-use native.Mathlib.Nat.{add-zero, mul-le-mul-left}
+use native.Mathlib.Nat.{add-zero}
 use native.Mathlib.Decide.{ℕ-discrete}
 use mathlib.Core.Path.{_≡_, refl, sym, ap, _∙_}
 use mathlib.Core.Logic.{_⊎_, inl, inr}
@@ -17,7 +16,7 @@ use Rattle.paths.specs.Systems.{System, Legal, Lawful}
 use Rattle.paths.specs.Rivals.{Route, Before, ends, lower, later}
 use Rattle.paths.specs.Distances.{Cost, fin, inf, Table, lowestKeeping, follow}
 use Rattle.paths.proofs.Costs.{within-fin}
-use Rattle.paths.proofs.Routes.{route-rival, Rest, done, more, rest-more, route-cost}
+use Rattle.paths.proofs.Routes.{route-rival, Rest, done, more, rest-more}
 use Rattle.paths.proofs.Loops.{cheapest-short}
 use Rattle.paths.proofs.Following.{cost-keeps, lowest-keeps, follow-none, follow-goal, follow-inf, follow-step, follow-take}
 use Rattle.paths.proofs.Following.{Kept, kept, follow-rest}
@@ -59,17 +58,6 @@ module _ {S : System} {Good : S .Place → Type 0} {code : S .Place → ℕ} {si
       by false g (fin n) e =
           rw (← (follow-take S D k (k + n) s (omega arith)))
           (omega (arith, length-take k (follow S D (k + n) s), cost-short good g e (follow-long k good g e)))
-
-  -- a finite entry is at most the dearest price for each place
-  pub entry-cost : {s : S .Place} {n : ℕ} → Good s → D s ≡ fin n → n ≤ dearest * size
-  entry-cost {s} {n} good e = by (S .goal s) refl
-    where
-      by : (b : Bool) → S .goal s ≡ b → n ≤ dearest * size
-      by true g = let none = T .goals good g in let z : n ≡ 0 = cc in omega arith
-      by false g =
-          let r = follow-long 0 good g e in
-          let few : length (follow S D (0 + n) s) ≤ size = omega (arith, cost-short good g e r) in
-          omega (arith, route-cost laws good r, mul-le-mul-left dearest few)
 
   -- ---- the first
 

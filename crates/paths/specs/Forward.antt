@@ -4,8 +4,8 @@
 --     Enters         a move into a goal from a place that the search came to, and the cost of the walk
 --     Forward        what the search has when it stops
 -- E is the cost of the walk to each place, infinite where the search did not come. C is the cost of the cheapest goal found, infinite where there
--- is none, so that one record says both ends of a search. h is what is left at least: 1 for a plain search, whose prices are at least 1, so that
--- "e + h within C" is "e below C"; a search with a bound of its own has that. Places beyond C may be left as they are, with any walk's cost, and
+-- is none, so that one record says both ends of a search. h is what is left at least: 1 would do for a search without a bound of its own,
+-- since prices are at least 1, and "e + h within C" is then "e below C". Places beyond C may be left as they are, with any walk's cost, and
 -- nothing is asked of the entries of goals, so that a search need not keep them.
 use Prim.Native.Nat.{ℕ, _+_, _≤_, _<_}
 use mathlib.Core.Path.{_≡_}

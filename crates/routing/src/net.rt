@@ -2,6 +2,7 @@
 ghost use mathlib.Core.Path.{_≡_};
 ghost use Prim.Native.Nat.{ℕ, _<_, _≤_, _+_, _*_};
 ghost use lib.ListN.{length, take, replicate};
+ghost use Rattle.job.specs.Lists.{All};
 ghost use Rattle.job.specs.Grid.{vertices};
 ghost use Rattle.job.specs.Job.{Job};
 ghost use Rattle.job.specs.Structs.{gridOf};
@@ -12,6 +13,7 @@ ghost use Rattle.rules.specs.Structs.{techBy};
 ghost use Rattle.tree.specs.Spots.{Pins, begunSpots};
 ghost use Rattle.walker.specs.Structs.{totalsOf, Bounded};
 ghost use Rattle.tables.specs.Moves.{Prepared};
+ghost use Rattle.bounds.specs.Fills.{Among};
 ghost use Rattle.front.specs.Fronts.{Searched};
 ghost use Rattle.front.specs.Charts.{Blank};
 ghost use Rattle.routing.specs.Structs.{NetHere, IsRouted};
@@ -43,7 +45,8 @@ pub fn route_records(
     before: Totals,
 ) -> Routed
     requires { ⌜ (Searched tech largest) × (Blank (techBy tech) (now work))
-        × (vertices (gridOf (tech .grid)) ≤ length (now map)) × (Pins (now pins) count) × (net < 256) × (Bounded (16 * net) before from) ⌝ }
+        × (vertices (gridOf (tech .grid)) ≤ length (now map)) × (Pins (now pins) count) × (net < 256) × (Bounded (16 * net) before from)
+        × (Among (gridOf (tech .grid)) (now spots) (now pins) count) ⌝ }
     requires { ⌜ Prepared (techBy tech) (viewBy (gridOf (tech .grid)) (now seen)) (now rates) (now ground) (now lows) (now highs) ⌝ }
     ensures answer { λ r. ⌜ ((j : Job) (k : ℕ) (s : Standing)
         → NetHere j k s tech (viewBy (gridOf (tech .grid)) (now (seen .entry))) net (take count (now (pins .entry)))
@@ -76,6 +79,8 @@ pub fn route_records(
             plan,
             net,
             bits,
+            pins,
+            count,
         );
         match joined {
             Joined::None => {
@@ -116,7 +121,8 @@ pub fn route_net(
     before: Totals,
 ) -> Routed
     requires { ⌜ (Searched tech largest) × (Blank (techBy tech) (now work))
-        × (vertices (gridOf (tech .grid)) ≤ length (now map)) × (Pins (now pins) count) × (net < 256) × (Bounded (16 * net) before from) ⌝ }
+        × (vertices (gridOf (tech .grid)) ≤ length (now map)) × (Pins (now pins) count) × (net < 256) × (Bounded (16 * net) before from)
+        × (All (λ v. v < vertices (gridOf (tech .grid))) (take count (now pins))) ⌝ }
     requires { ⌜ Prepared (techBy tech) (viewBy (gridOf (tech .grid)) (now seen)) (now rates) (now ground) (now lows) (now highs) ⌝ }
     ensures answer { λ r. ⌜ ((j : Job) (k : ℕ) (s : Standing)
         → NetHere j k s tech (viewBy (gridOf (tech .grid)) (now (seen .entry))) net (take count (now (pins .entry)))

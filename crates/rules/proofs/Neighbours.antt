@@ -1,11 +1,12 @@
 -- The vertex that a move enters.
 --     OneHigh, low-enters, high-enters         a step: one vertex is the next high of the other
 --     enters-low, enters-high                  the other way
+--     high-vertex                              by their coordinates
 --     OneUp, down-enters, up-enters            a via: one vertex is above the other
 --     enters-down, enters-up                   the other way
 --     entered-below                            a vertex that is entered is of the grid
---     entered-back                             some move enters the vertex that was left
-use Prim.Native.Nat.{ℕ, zero, suc, _+_, _-_, _*_, _<_}
+--     entered-back                             the opposite move enters the vertex that was left
+use Prim.Native.Nat.{ℕ, zero, suc, _+_, _-_, _*_, _%_, _<_}
 use mathlib.Core.Path.{_≡_, refl, sym, ap, _∙_, subst, subst₂}
 use mathlib.Core.Bool.{Bool, true, false, cond}
 use native.Mathlib.Nat.{not-suc-le-zero}
@@ -152,6 +153,15 @@ enters-low g {v} {w} o =
     let number : w - strideOf g (layerOf g w) ≡ v = omega (arith, o .number, stride) in
     rw (lt-ltb 0 (trackPlace g w) (omega (arith, o .place))) (ap at number)
 
+-- by their coordinates
+pub high-vertex : (g : Grid) {v w : ℕ} → OneHigh g v w → vertexBy g w ≡ nextHigh g (vertexBy g v)
+unfolding trackPlace trackLength
+high-vertex g {v} {w} o =
+    let x = vertexBy g v in
+    let n = next-below g x (vertex-below g (o .lower)) (rw (o .place) at (o .room)) in
+    let next : vertexNumber g (nextHigh g x) ≡ w = omega (arith, number-next g x, number-vertex g v, o .number) in
+    ap (vertexBy g) (sym next) ∙ vertex-number g (nextHigh g x) n
+
 -- ---- a via
 
 -- w is the vertex above v
@@ -240,13 +250,13 @@ entered-below g {w = w} (suc (suc (suc (suc m)))) h e = no-move e
     no-move q = let z : _≡_ {A = ℕ} 0 1 = cc in omega arith
 
 -- low and high are each other's way back, and so are down and up
-pub entered-back : (g : Grid) {v w : ℕ} (m : ℕ) → v < vertices g → entered g v m ≡ at w → (k : ℕ) × (k < 4) × (entered g w k ≡ at v)
+pub entered-back : (g : Grid) {v w : ℕ} (m : ℕ) → v < vertices g → entered g v m ≡ at w → (m < 4) × (entered g w (m + 1 - 2 * (m % 2)) ≡ at v)
 unfolding entered
-entered-back g zero h e = (1, omega arith, enters-high g (low-enters g h e))
-entered-back g (suc zero) h e = (0, omega arith, enters-low g (high-enters g h e))
-entered-back g (suc (suc zero)) h e = (3, omega arith, enters-up g (down-enters g h e))
-entered-back g (suc (suc (suc zero))) h e = (2, omega arith, enters-down g (up-enters g h e))
-entered-back g {v} {w} (suc (suc (suc (suc m)))) h e = no-move e
+entered-back g zero h e = (omega arith, enters-high g (low-enters g h e))
+entered-back g (suc zero) h e = (omega arith, enters-low g (high-enters g h e))
+entered-back g (suc (suc zero)) h e = (omega arith, enters-up g (down-enters g h e))
+entered-back g (suc (suc (suc zero))) h e = (omega arith, enters-down g (up-enters g h e))
+entered-back g {w = w} (suc (suc (suc (suc m)))) h e = absurd (no-move e)
   where
-    no-move : outside ≡ at w → (k : ℕ) × (k < 4) × (entered g w k ≡ at v)
-    no-move q = let z : _≡_ {A = ℕ} 0 1 = cc in absurd (omega arith)
+    no-move : outside ≡ at w → ⊥
+    no-move q = let z : _≡_ {A = ℕ} 0 1 = cc in omega arith

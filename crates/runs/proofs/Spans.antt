@@ -1,7 +1,9 @@
 -- Counts are stored, one by one or a span of them.
+--     clear-byte                       a byte says clear where its two lowest bits are 0
 --     more-none, more-one              a count by the two lowest bits of the neighbour's byte
 --     count-next                       a vertex's count from its neighbour's
---     counted-store, counted-bared     one more vertex has its count, or a span of vertices with nothing beyond them
+--     counted-store                    one more vertex has its count
+--     kept-store                       the counts outside a span that grows by it are as they were
 --     LowPass, low-begin, -turn, -end       a span of low counts is made upward
 --     HighPass, high-begin, -turn, -end     one of high counts downward
 --     Baring, bared-begin, -turn, -end      a span of counts is made 0
@@ -10,7 +12,6 @@ use mathlib.Core.Path.{_≡_, refl, sym, ap, subst, _∙_}
 use mathlib.Core.List.{List, [], _∷_}
 use mathlib.Core.Bool.{Bool, true, false}
 use native.Mathlib.Nat.{div-one}
-use native.Mathlib.Decide.{decLe, decLt}
 use native.Mathlib.Omega.{arith}
 use lib.Arith.{mod-mul}
 use lib.ListN.{length, getD, set, length-set}
@@ -25,13 +26,13 @@ use Rattle.rules.specs.Overheads.{clear, toward}
 use Rattle.rules.specs.Seen.{holds, clearByte, viewBy}
 use Rattle.rules.proofs.Neighbours.{entered-below}
 use Rattle.rules.proofs.Held.{seen-clear}
-use Rattle.runs.specs.Runs.{lesser, runBeyond, CountedIn, oneMore, beside, Span, LowMade, HighMade, Bared}
+use Rattle.runs.specs.Runs.{lesser, runBeyond, CountedIn, oneMore, beside, Span, Kept, LowMade, HighMade, Bared}
 use Rattle.runs.proofs.Counts.{beyond-unclear, beyond-on}
 
 -- ---- a count from the neighbour's
 
 -- a byte says clear where its two lowest bits are 0
-clear-byte : (byte : ℕ) → clearByte byte ≡ eqb (byte % 4) 0
+pub clear-byte : (byte : ℕ) → clearByte byte ≡ eqb (byte % 4) 0
 unfolding clearByte holds
 clear-byte byte = by (eqb (byte / 1 % 2) 1) refl (eqb (byte / 2 % 2) 1) refl
   where
@@ -86,23 +87,14 @@ module _ (g : Grid) (view : View) (d : Direction) where
       by true e = rw (eqb-true w v e) (getD-set-same counts v count 0 there ∙ is)
       by false e = getD-set-other counts v w count 0 (eqb-false w v e) ∙ others w above below (eqb-false w v e)
 
-  -- vertices with nothing beyond them have their counts, the others of a span have theirs
-  pub counted-bared : (was counts : List ℕ) (from to first end : ℕ) → Bared was counts first end
-      → ((w : ℕ) → first ≤ w → w < end → 0 ≡ runBeyond g view d w)
-      → ((w : ℕ) → from ≤ w → w < to → (first ≤ w → w < end → ⊥) → getD was w 0 ≡ runBeyond g view d w)
-      → CountedIn g view d counts from to
-  unfolding CountedIn
-  counted-bared was counts from to first end bared none others w above below = by (decLe first w) (decLt w end)
-    where
-      outside : (first ≤ w → w < end → ⊥) → getD counts w 0 ≡ runBeyond g view d w
-      outside out = bared .kept w out ∙ others w above below out
-
-      by : Dec (first ≤ w) → Dec (w < end) → getD counts w 0 ≡ runBeyond g view d w
-      by (yes h) (yes k) = bared .none w h k ∙ none w h k
-      by (yes h) (no k) = outside (λ h′ k′. k k′)
-      by (no h) k = outside (λ h′ k′. h h′)
-
 -- ---- spans
+
+-- one more count of a wider span is stored
+kept-store : (was counts : List ℕ) (count : ℕ) {from to begin end v : ℕ} → Kept was counts from to → begin ≤ from → to ≤ end → begin ≤ v → v < end
+    → Kept was (set counts v count) begin end
+kept-store was counts count {from} {to} {begin} {end} {v} kept lower upper above below w out =
+    getD-set-other counts v w count 0 (λ e. out (omega (arith, e, above)) (omega (arith, e, below)))
+    ∙ kept w (λ h k. out (omega (arith, h, lower)) (omega (arith, k, upper)))
 
 module _ (seen was : List ℕ) (from to back : ℕ) where
   -- before a turn up: the span has its low counts below a vertex
@@ -113,22 +105,29 @@ module _ (seen was : List ℕ) (from to back : ℕ) where
     pub made : LowMade seen was counts from v back
 
   pub low-begin : from ≤ to → LowPass was from
-  low-begin some = record { size = refl; begun = omega arith; within = some; made = λ g span counted. counted }
+  low-begin some =
+      record { size = refl; begun = omega arith; within = some; made = record { made = λ g begin span room counted. counted; kept = λ w out. refl } }
 
   -- the next vertex up gets its count
-  pub low-turn : {counts : List ℕ} {v count : ℕ} → back ≤ from → to ≤ length was → LowPass counts v → v < to
+  pub low-turn : {counts : List ℕ} {v count : ℕ} → to ≤ length was → LowPass counts v → v < to
       → count ≡ oneMore (getD counts (v - back) 0) (getD seen (v - back) 0) → LowPass (set counts v count) (v + 1)
   unfolding CountedIn beside
-  low-turn {counts} {v} {count} room fits pass more is =
-      record { size = length-set counts v count ∙ pass .size; begun = omega (arith, pass .begun); within = omega (arith, more); made = made }
+  low-turn {counts} {v} {count} fits pass more is =
+      record {
+        size = length-set counts v count ∙ pass .size;
+        begun = omega (arith, pass .begun);
+        within = omega (arith, more);
+        made = record { made = made; kept = kept-store was counts count (pass .made .kept) (omega arith) (omega arith) (pass .begun) (omega arith) };
+      }
     where
-      made : LowMade seen was (set counts v count) from (v + 1) back
-      made g span counted =
+      made : (g : Grid) (begin : ℕ) → Span g low from (v + 1) back → begin + back ≤ from → CountedIn g (viewBy g seen) low was begin from
+          → CountedIn g (viewBy g seen) low (set counts v count) begin (v + 1)
+      made g begin span room counted =
           let shorter : Span g low from v back = record { apart = span .apart; within = omega (arith, span .within); next = λ w h k. span .next w h (omega (arith, k)) } in
-          let so-far = pass .made g shorter counted in
-          let next = so-far (v - back) (omega arith) (omega (arith, span .apart, room, pass .begun)) in
+          let so-far = pass .made .made g begin shorter room counted in
+          let next = so-far (v - back) (omega (arith, room, pass .begun)) (omega (arith, span .apart, room, pass .begun)) in
           let enters = span .next v (pass .begun) (omega arith) in
-          counted-store g (viewBy g seen) low counts 0 (v + 1) v count (omega (arith, pass .size, fits, more))
+          counted-store g (viewBy g seen) low counts begin (v + 1) v count (omega (arith, pass .size, fits, more))
           (is ∙ count-next g seen low (omega (arith, span .within)) enters next)
           (λ w h k other. so-far w h (omega (arith, k, other)))
 
@@ -145,23 +144,34 @@ module _ (seen was : List ℕ) (from to back : ℕ) where
     pub made : HighMade seen was counts v to back
 
   pub high-begin : from ≤ to → HighPass was to
-  high-begin some = record { size = refl; begun = some; within = omega arith; made = λ g span counted. counted }
+  high-begin some =
+      record { size = refl; begun = some; within = omega arith; made = record { made = λ g end span room counted. counted; kept = λ w out. refl } }
 
   -- the next vertex down gets its count
   pub high-turn : {counts : List ℕ} {v count : ℕ} → to + back ≤ length was → HighPass counts v → from < v
       → count ≡ oneMore (getD counts (v - 1 + back) 0) (getD seen (v - 1 + back) 0) → HighPass (set counts (v - 1) count) (v - 1)
   unfolding CountedIn beside
   high-turn {counts} {v} {count} fits pass more is =
-      record { size = length-set counts (v - 1) count ∙ pass .size; begun = omega (arith, more); within = omega (arith, pass .within); made = made }
+      record {
+        size = length-set counts (v - 1) count ∙ pass .size;
+        begun = omega (arith, more);
+        within = omega (arith, pass .within);
+        made =
+            record {
+              made = made;
+              kept = kept-store was counts count (pass .made .kept) (omega arith) (omega arith) (omega arith) (omega (arith, more, pass .within));
+            };
+      }
     where
-      made : HighMade seen was (set counts (v - 1) count) (v - 1) to back
-      made g span counted =
+      made : (g : Grid) (end : ℕ) → Span g high (v - 1) to back → to + back ≤ end → CountedIn g (viewBy g seen) high was to end
+          → CountedIn g (viewBy g seen) high (set counts (v - 1) count) (v - 1) end
+      made g end span room counted =
           let shorter : Span g high v to back = record { apart = span .apart; within = span .within; next = λ w h k. span .next w (omega (arith, h)) k } in
-          let so-far = pass .made g shorter counted in
+          let so-far = pass .made .made g end shorter room counted in
           let on : v - 1 < vertices g = omega (arith, more, pass .within, span .within) in
           let enters = span .next (v - 1) (omega arith) (omega (arith, more, pass .within)) in
-          let next = so-far (v - 1 + back) (omega (arith, span .apart)) (entered-below g (toward high) on enters) in
-          counted-store g (viewBy g seen) high counts (v - 1) (vertices g) (v - 1) count (omega (arith, pass .size, fits, more, pass .within))
+          let next = so-far (v - 1 + back) (omega (arith, span .apart)) (omega (arith, more, pass .within, room)) in
+          counted-store g (viewBy g seen) high counts (v - 1) end (v - 1) count (omega (arith, pass .size, fits, more, pass .within))
           (is ∙ count-next g seen high on enters next)
           (λ w h k other. so-far w (omega (arith, h, other)) k)
 
@@ -197,7 +207,7 @@ module _ (was : List ℕ) (from to : ℕ) where
       record {
         begun = omega (arith, pass .begun);
         within = omega (arith, more);
-        bared = record { none = none; kept = kept };
+        bared = record { none = none; kept = kept-store was counts 0 (pass .bared .kept) (omega arith) (omega arith) (pass .begun) (omega arith) };
       }
     where
       none : (w : ℕ) → from ≤ w → w < v + 1 → getD (set counts v 0) w 0 ≡ 0
@@ -206,11 +216,6 @@ module _ (was : List ℕ) (from to : ℕ) where
           by : (b : Bool) → eqb w v ≡ b → getD (set counts v 0) w 0 ≡ 0
           by true e = rw (eqb-true w v e) (stored-none counts v)
           by false e = getD-set-other counts v w 0 0 (eqb-false w v e) ∙ pass .bared .none w h (omega (arith, k, eqb-false w v e))
-
-      kept : (w : ℕ) → (from ≤ w → w < v + 1 → ⊥) → getD (set counts v 0) w 0 ≡ getD was w 0
-      kept w out =
-          getD-set-other counts v w 0 0 (λ e. out (omega (arith, e, pass .begun)) (omega (arith, e)))
-          ∙ pass .bared .kept w (λ h k. out h (omega (arith, k)))
 
   pub bared-end : {counts : List ℕ} {v : ℕ} → Baring counts v → to ≤ v → Bared was counts from to
   bared-end {counts} {v} pass done =

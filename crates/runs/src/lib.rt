@@ -1,2 +1,2 @@
-// The clear runs of every vertex, made once when a net begins.
+// The clear runs of every vertex. When a net begins, those of tracks that changed are made anew.
 pub mod fill;

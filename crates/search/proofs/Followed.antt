@@ -23,7 +23,8 @@ use Rattle.rules.specs.declared.step.Made.{Made as MadeStruct}
 use Rattle.rules.specs.declared.step.Stepped.{Stepped as SteppedEnum}
 use Rattle.rules.specs.declared.step.Stepped.the-variants.{Illegal, Legal}
 use Rattle.heap.specs.Heaps.{keyOf}
-use Rattle.front.specs.Fronts.{systemBy, Searched}
+use Rattle.bounds.specs.Bounds.{SmallBounds}
+use Rattle.front.specs.Fronts.{systemBy, costs, Searched}
 use Rattle.front.specs.Leads.{lowestBy}
 use Rattle.front.proofs.Asking.{led, led-not}
 use Rattle.front.specs.Charts.{Charted, lowestMarked}
@@ -40,31 +41,32 @@ pub ends-here : (r : Bool) {b : Bool} → not r ≡ false → r ≡ b → b ≡ 
 ends-here true e is = sym is
 ends-here false e is = absurd (true≢false e)
 
-module _ {tech : TechStruct} {largest : ℕ} (held : Searched tech largest) (seen : List ℕ) {spots work : List ℕ} {best : ℕ}
-    (charted : Charted (techBy tech) (viewBy (gridOf (tech .grid)) seen) spots work best) (place : PlaceStruct) where
+module _ {tech : TechStruct} {largest : ℕ} (held : Searched tech largest) (seen : List ℕ) {spots bounds work : List ℕ} {best : ℕ}
+    (charted : Charted (techBy tech) (viewBy (gridOf (tech .grid)) seen) spots bounds work best) (place : PlaceStruct) where
   -- what the net at hand sees
   abbrev view : View
   view = viewBy (gridOf (tech .grid)) seen
 
-  -- the key in the place's entry
-  abbrev key : ℕ
-  key = keyOf (getD work (placeCode (techBy tech) (placeOf place)) 0)
+  -- the cost that the place's entry tells, and 1
+  abbrev told : ℕ
+  told = costs (techBy tech) bounds work (placeCode (techBy tech) (placeOf place))
 
   -- what the lowest move that leads on is asked for
-  pub lead-asked : GoodPlace (techBy tech) (placeOf place) → OnJoin (techBy tech) view spots work best (placeOf place)
-      → (Searched tech largest) × (GoodPlace (techBy tech) (placeOf place)) × (places (techBy tech) ≤ length work) × (0 < key) × (key ≤ 2 ^ 40)
-  lead-asked on joins =
-      let (some, small) = on-key (techBy tech) view spots charted (held .fits .good) on joins in (held, on, charted .room, some, small)
+  pub lead-asked : SmallBounds bounds → GoodPlace (techBy tech) (placeOf place) → OnJoin (techBy tech) view spots bounds work best (placeOf place)
+      → (Searched tech largest) × (GoodPlace (techBy tech) (placeOf place)) × (places (techBy tech) ≤ length work) × (0 < told)
+      × (keyOf (getD work (placeCode (techBy tech) (placeOf place)) 0) ≤ 2 ^ 40) × (SmallBounds bounds)
+  lead-asked few on joins =
+      let (some, small) = on-key (techBy tech) view spots charted (held .fits .good) on joins in (held, on, charted .room, some, small, few)
 
-  module _ {start count : ℕ} (so-far : Counting (techBy tech) view spots work best start (placeOf place) count)
+  module _ {start count : ℕ} (so-far : Counting (techBy tech) view spots bounds work best start (placeOf place) count)
       (goes : eqb (getD spots (place .vertex) 0) 2 ≡ false) {number : ℕ}
-      (low : (e : ℕ) → key ≡ suc e → number ≡ lowestBy (techBy tech) view spots work best (placeOf place) e) {r : SteppedEnum}
+      (low : (e : ℕ) → told ≡ suc e → number ≡ lowestBy (techBy tech) view spots bounds work best (placeOf place) e) {r : SteppedEnum}
       (stepped : IsStepped (gridOf (tech .grid)) view (place .vertex) r (step (techBy tech) view (placeOf place) number)) where
     -- a place of a cheapest join has a cost to go
     cost-here : (c : ℕ) × (toGo (techBy tech) view spots (placeOf place) ≡ fin c)
     cost-here = by (so-far .joins goes)
       where
-        by : OnJoin (techBy tech) view spots work best (placeOf place) → (c : ℕ) × (toGo (techBy tech) view spots (placeOf place) ≡ fin c)
+        by : OnJoin (techBy tech) view spots bounds work best (placeOf place) → (c : ℕ) × (toGo (techBy tech) view spots (placeOf place) ≡ fin c)
         by (onBest {d = d} g at left sum) = (d, left)
 
     -- its number
@@ -73,7 +75,7 @@ module _ {tech : TechStruct} {largest : ℕ} (held : Searched tech largest) (see
 
     -- one more is counted
     pub followed-made : {made : MadeStruct} → start ≡ lowestMarked (techBy tech) view spots work → r ≡ Legal made
-        → Counting (techBy tech) view spots work best start (placeOf (made .next)) (count + 1)
+        → Counting (techBy tech) view spots bounds work best start (placeOf (made .next)) (count + 1)
     followed-made {made} from is =
         let (c, cost) = cost-here in
         counting-on (techBy tech) view spots charted (held .fits .good) from so-far goes cost

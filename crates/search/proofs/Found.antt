@@ -15,7 +15,7 @@ use Rattle.paths.specs.Starts.{Choice, none, first, startCost, Chooses}
 use Rattle.paths.specs.Forward.{Forward}
 use Rattle.paths.proofs.Following.{follow-none, follow-goal, follow-inf, follow-step}
 use Rattle.paths.proofs.Starts.{best-chooses, best-same}
-use Rattle.paths.proofs.Cheapest.{one-bounds, forward-none, marks-best}
+use Rattle.paths.proofs.Cheapest.{forward-none, marks-best}
 use Rattle.rules.specs.Views.{View, member}
 use Rattle.rules.specs.Segments.{Place}
 use Rattle.rules.specs.Prices.{Tech}
@@ -27,9 +27,11 @@ use Rattle.rules.proofs.Places.{start-good}
 use Rattle.rules.proofs.Certificates.{join-by-table}
 use Rattle.tree.specs.Spots.{Spots}
 use Rattle.tree.proofs.Marked.{spot-goal, spot-tree}
-use Rattle.front.specs.Fronts.{systemBy, startsBy, reachedBy}
+use Rattle.bounds.specs.Bounds.{Bounding}
+use Rattle.front.specs.Fronts.{systemBy, startsBy, reachedBy, atLeast}
 use Rattle.front.specs.Charts.{Charted, lowestMarked}
 use Rattle.front.proofs.Lawful.{lawful-by, starts-good}
+use Rattle.front.proofs.Costing.{bounds-low}
 use Rattle.search.specs.Traces.{toGo, choiceOf, routeBy, joinChosen, joinBySpots}
 use Rattle.search.proofs.Tracing.{table-by, trace-next}
 
@@ -98,18 +100,18 @@ module _ (t : Tech) (view : View) (spots : List ℕ) (good : GoodTech t) where
   -- ---- the search from the tree
 
   -- a search that found an unjoined pin has marked the join's start, and has its cost
-  pub found-marked : {work : List ℕ} {best : ℕ} → Charted t view spots work best
+  pub found-marked : {bounds work : List ℕ} {best : ℕ} → Charted t view spots bounds work best
       → joinBySpots t view spots ≡ Record.join (lowestMarked t view spots work) (routeBy t view spots (lowestMarked t view spots work)) best
   unfolding joinBySpots choiceOf joinChosen
   found-marked charted =
       let laws = lawful-by view spots good in
       ap (joinChosen t view spots)
-      (marks-best laws (table-by t view spots good) (starts-good t view spots) (one-bounds laws) (charted .forward) (charted .marks))
+      (marks-best laws (table-by t view spots good) (starts-good t view spots) (charted .low) (charted .forward) (charted .marks))
 
   -- where a search found none there is no join
-  pub found-nothing : (work : List ℕ) → Forward S (GoodPlace t) (startsBy t view spots) (λ p. 1) (reachedBy t work) inf
-      → joinBySpots t view spots ≡ Record.none
+  pub found-nothing : (bounds work : List ℕ) → Bounding t spots bounds
+      → Forward S (GoodPlace t) (startsBy t view spots) (atLeast t bounds) (reachedBy t bounds work) inf → joinBySpots t view spots ≡ Record.none
   unfolding joinBySpots choiceOf joinChosen
-  found-nothing work forward =
+  found-nothing bounds work bounding forward =
       let laws = lawful-by view spots good in
-      ap (joinChosen t view spots) (forward-none laws (table-by t view spots good) (starts-good t view spots) (one-bounds laws) forward)
+      ap (joinChosen t view spots) (forward-none laws (table-by t view spots good) (starts-good t view spots) (bounds-low view good bounding) forward)

@@ -54,7 +54,7 @@ pub record Marked (t : Tech) (view : View) (spots : List ℕ) (start cost : ℕ)
   pub few : length (routeBy t view spots start) < 2 ^ 20
   pub record-is : joinBySpots t view spots ≡ join start (routeBy t view spots start) cost
 
-pub start-marked : (t : Tech) (view : View) (spots : List ℕ) {work : List ℕ} {best start : ℕ} → GoodTech t → Charted t view spots work best
+pub start-marked : (t : Tech) (view : View) (spots : List ℕ) {bounds work : List ℕ} {best start : ℕ} → GoodTech t → Charted t view spots bounds work best
     → start ≡ lowestMarked t view spots work → Marked t view spots start best
 start-marked t view spots good charted lowest =
     let below = start-on t view spots charted good .0 in

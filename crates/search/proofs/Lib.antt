@@ -5,7 +5,8 @@
 --     Putting      fields put one after the other
 --     Found        the join that the bytes tell is the cheapest join of what stands, and the one that a search found
 --     Joining      a record written, in the code's words
---     Records       the next record, in the code's words
+--     Records      the next record, in the code's words
+--     Pins         no join makes an unjoined pin
 pub mod Tracing
 pub mod Followed
 pub mod Writing
@@ -13,3 +14,4 @@ pub mod Putting
 pub mod Found
 pub mod Joining
 pub mod Records
+pub mod Pins

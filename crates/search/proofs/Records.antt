@@ -22,7 +22,8 @@ use Rattle.rules.specs.Structs.{techBy}
 use Rattle.rules.specs.declared.price.Tech.{Tech as TechStruct}
 use Rattle.metal.specs.Codes.{Beyond, Bare}
 use Rattle.metal.proofs.Slices.{beyond-refl, zeroed-only}
-use Rattle.front.specs.Fronts.{systemBy, startsBy, reachedBy, bestBy, Searched}
+use Rattle.bounds.specs.Bounds.{Bounding}
+use Rattle.front.specs.Fronts.{systemBy, startsBy, reachedBy, atLeast, bestBy, Searched}
 use Rattle.front.specs.Charts.{Blank}
 use Rattle.front.specs.Lists.{Laid}
 use Rattle.front.specs.Spreads.{Ended}
@@ -46,11 +47,11 @@ unfolding bestBy
 no-best best h = rw (le-ltb best 1099511627775 h) refl
 
 -- where the search found no unjoined pin there is no join
-pub none-found : {t : Tech} (view : View) (spots : List ℕ) → GoodTech t → {near work : List ℕ} {size settled best : ℕ}
-    → Ended t view spots near work size settled best → 1099511627775 ≤ best → joinBySpots t view spots ≡ Record.none
-none-found {t} view spots good {work = work} {best = best} ended none =
-    found-nothing t view spots good work
-    (subst (Forward (systemBy t view spots) (GoodPlace t) (startsBy t view spots) (λ p. 1) (reachedBy t work)) (no-best best none) (ended-forward view spots good ended))
+pub none-found : {t : Tech} (view : View) (spots : List ℕ) → GoodTech t → {bounds near work : List ℕ} {size settled best : ℕ} → Bounding t spots bounds
+    → Ended t view spots bounds near work size settled best → 1099511627775 ≤ best → joinBySpots t view spots ≡ Record.none
+none-found {t} view spots good {bounds = bounds} {work = work} {best = best} bounding ended none =
+    found-nothing t view spots good bounds work bounding
+    (subst (Forward (systemBy t view spots) (GoodPlace t) (startsBy t view spots) (atLeast t bounds) (reachedBy t bounds work)) (no-best best none) (ended-forward view good bounding ended))
 
 -- the work slice is lent zero, and left so
 pub work-back : {t : Tech} {n : ℕ} {found left : List ℕ} → n ≡ places t → Blank t found → Bare (n + n) left → Beyond (n + n) left found → left ≡ found
@@ -60,8 +61,8 @@ work-back {t} {n} {found} {left} whole blank bare kept =
     zeroed-only kept bare room ∙ sym (zeroed-only (beyond-refl (n + n) found) zero room)
 
 -- how the work slice is laid out at the end of a search
-pub laid-end : {t : Tech} {view : View} {spots near work : List ℕ} {size settled best n : ℕ} → n ≡ places t
-    → Ended t view spots near work size settled best → (last : ℕ) × Laid n size settled last work
+pub laid-end : {t : Tech} {view : View} {spots bounds near work : List ℕ} {size settled best n : ℕ} → n ≡ places t
+    → Ended t view spots bounds near work size settled best → (last : ℕ) × Laid n size settled last work
 laid-end whole ended = (ended .between .last, rw whole (ended .between .laid))
 
 -- what a record leaves, with what is known of the work slice

@@ -17,7 +17,7 @@ use Rattle.paths.specs.Systems.{blocked, to, System, Legal}
 use Rattle.paths.specs.Distances.{Cost, fin, Table, keeps, lowestKeeping, follow}
 use Rattle.paths.specs.Marks.{OnBest, onBest, Leads, ends, goesOn}
 use Rattle.paths.proofs.Following.{follow-goal, follow-step, cost-keeps, kept}
-use Rattle.paths.proofs.Cheapest.{dist-table, follow-short, one-bounds, keeps-leads, lowest-lead}
+use Rattle.paths.proofs.Cheapest.{dist-table, follow-short, keeps-leads, lowest-lead}
 use Rattle.paths.proofs.JoinMarks.{marked-on}
 use Rattle.paths.proofs.OnBest.{same-fin}
 use Rattle.paths.proofs.Steps.{not-blocked, one-price, one-next}
@@ -29,7 +29,7 @@ use Rattle.rules.specs.Joins.{places}
 use Rattle.rules.specs.Places.{placeCode, GoodPlace, GoodTech}
 use Rattle.rules.proofs.Places.{code-below, start-good, places-small}
 use Rattle.heap.specs.Heaps.{keyOf}
-use Rattle.front.specs.Fronts.{systemBy, reachedBy}
+use Rattle.front.specs.Fronts.{systemBy, costs, reachedBy}
 use Rattle.front.specs.Leads.{lowestBy}
 use Rattle.front.specs.Charts.{Charted, lowestMarked}
 use Rattle.front.proofs.Lawful.{lawful-by, starts-good}
@@ -101,10 +101,10 @@ module _ (t : Tech) (view : View) (spots : List ℕ) where
 
   -- ---- places of cheapest joins
 
-  module _ (work : List ℕ) (best : ℕ) where
+  module _ (bounds work : List ℕ) (best : ℕ) where
     -- a place of a cheapest join
     abbrev pub OnJoin : Place → Type 0
-    OnJoin p = OnBest S (reachedBy t work) best D p
+    OnJoin p = OnBest S (reachedBy t bounds work) best D p
 
     -- so many moves are made, and the place that they lead to is a goal or of a cheapest join; these and what is followed from there are the route
     pub record Counting (start : ℕ) (p : Place) (count : ℕ) : Type 0 where
@@ -112,38 +112,38 @@ module _ (t : Tech) (view : View) (spots : List ℕ) where
       pub joins : S .goal p ≡ false → OnJoin p
       pub rest : length (routeBy t view spots start) ≡ count + length (follow S D (places t - count) p)
 
-  module _ {work : List ℕ} {best : ℕ} (charted : Charted t view spots work best) (fine : GoodTech t) where
+  module _ {bounds work : List ℕ} {best : ℕ} (charted : Charted t view spots bounds work best) (fine : GoodTech t) where
     -- the lowest start with a mark is one
-    pub start-on : (lowestMarked t view spots work < vertices (t .grid)) × OnJoin work best (startAt (lowestMarked t view spots work))
+    pub start-on : (lowestMarked t view spots work < vertices (t .grid)) × OnJoin bounds work best (startAt (lowestMarked t view spots work))
     start-on =
-        let (below, is, on) = marked-on (lawful-by view spots fine) (table-by fine) (starts-good t view spots) (one-bounds (lawful-by view spots fine)) (charted .forward) (charted .marks) in
+        let (below, is, on) = marked-on (lawful-by view spots fine) (table-by fine) (starts-good t view spots) (charted .low) (charted .forward) (charted .marks) in
         (below, on)
 
     -- its entry tells the cost to it
-    on-entry : {p : Place} → OnJoin work best p → (e : ℕ) × (keyOf (getD work (placeCode t p) 0) ≡ suc e)
+    on-entry : {p : Place} → OnJoin bounds work best p → (e : ℕ) × (costs t bounds work (placeCode t p) ≡ suc e)
     unfolding reachedBy
-    on-entry {p} (onBest {e = e} g at left sum) = (e, cost-key (keyOf (getD work (placeCode t p) 0)) at)
+    on-entry {p} (onBest {e = e} g at left sum) = (e, cost-key (costs t bounds work (placeCode t p)) at)
 
     module _ {p : Place} (on : GoodPlace t p) where
-      -- the key in its entry is from 1 to 2^40
-      pub on-key : OnJoin work best p → (0 < keyOf (getD work (placeCode t p) 0)) × (keyOf (getD work (placeCode t p) 0) ≤ 2 ^ 40)
+      -- its entry tells a cost, and its key is at most 2^40
+      pub on-key : OnJoin bounds work best p → (0 < costs t bounds work (placeCode t p)) × (keyOf (getD work (placeCode t p) 0) ≤ 2 ^ 40)
       on-key is = let (e, key) = on-entry is in (omega (arith, key), charted .small (placeCode t p) (code-below on))
 
       -- the lowest move that leads on is the one that is followed
-      pub on-lowest : {number c : ℕ} → OnJoin work best p → D p ≡ fin c
-          → ((e : ℕ) → keyOf (getD work (placeCode t p) 0) ≡ suc e → number ≡ lowestBy t view spots work best p e)
+      pub on-lowest : {number c : ℕ} → OnJoin bounds work best p → D p ≡ fin c
+          → ((e : ℕ) → costs t bounds work (placeCode t p) ≡ suc e → number ≡ lowestBy t view spots bounds work best p e)
           → number ≡ lowestKeeping S D p c
       unfolding reachedBy
       on-lowest (onBest {e = e} {d = d} g at left sum) cost low =
-          low e (cost-key (keyOf (getD work (placeCode t p) 0)) at)
-          ∙ lowest-lead (lawful-by view spots fine) (table-by fine) (starts-good t view spots) (one-bounds (lawful-by view spots fine)) (charted .forward) (charted .marks) on g at left sum
+          low e (cost-key (costs t bounds work (placeCode t p)) at)
+          ∙ lowest-lead (lawful-by view spots fine) (table-by fine) (starts-good t view spots) (charted .low) (charted .forward) (charted .marks) on g at left sum
           ∙ ap (lowestKeeping S D p) (same-fin left cost)
 
       -- it leads to a goal, or on to such a place
-      pub on-next : {c cost : ℕ} {q : Place} → OnJoin work best p → D p ≡ fin c → S .step p (lowestKeeping S D p c) ≡ to cost q → S .goal q ≡ false
-          → OnJoin work best q
+      pub on-next : {c cost : ℕ} {q : Place} → OnJoin bounds work best p → D p ≡ fin c → S .step p (lowestKeeping S D p c) ≡ to cost q → S .goal q ≡ false
+          → OnJoin bounds work best q
       on-next {c} {cost} {q} (onBest {e = e} {d = d} g at left sum) is does no-goal =
-          by (keeps-leads (lawful-by view spots fine) (table-by fine) (starts-good t view spots) (one-bounds (lawful-by view spots fine)) (charted .forward) on g at is
+          by (keeps-leads (lawful-by view spots fine) (table-by fine) (starts-good t view spots) (charted .low) (charted .forward) on g at is
           (omega (arith, same-fin left is)) (next .known) keep)
         where
           next : Traced p c cost q (c - cost)
@@ -155,7 +155,7 @@ module _ (t : Tech) (view : View) (spots : List ℕ) where
           there : {d : ℕ} {r : Place} → Legal S p (lowestKeeping S D p c) d r → q ≡ r
           there legal = one-next (sym does ∙ legal .leads)
 
-          by : Leads S (reachedBy t work) best (OnJoin work best) p e (lowestKeeping S D p c) → OnJoin work best q
+          by : Leads S (reachedBy t bounds work) best (OnJoin bounds work best) p e (lowestKeeping S D p c) → OnJoin bounds work best q
           by (ends legal goal total) = absurd (true≢false (sym (rw (← there legal) at goal) ∙ no-goal))
           by (goesOn legal other at also) = rw (there legal) also
 
@@ -167,20 +167,20 @@ module _ (t : Tech) (view : View) (spots : List ℕ) where
       start-below = rw from (start-on .0)
 
       -- no move is made
-      pub counting-begun : Counting work best start (startAt start) 0
+      pub counting-begun : Counting bounds work best start (startAt start) 0
       unfolding routeBy
       counting-begun =
           let whole : places t - 0 ≡ places t = omega arith in
           record { good = start-good start-below; joins = λ g. rw from (start-on .1); rest = rw whole (omega arith) }
 
-      module _ {p : Place} {count : ℕ} (so-far : Counting work best start p count) where
+      module _ {p : Place} {count : ℕ} (so-far : Counting bounds work best start p count) where
         -- there are fewer moves than places
         pub counting-room : count < places t
         counting-room = omega (arith, so-far .rest, route-below fine start-below)
 
         -- one more
         pub counting-on : {c cost left : ℕ} {q : Place} → S .goal p ≡ false → D p ≡ fin c → Traced p c cost q left
-            → Counting work best start q (count + 1)
+            → Counting bounds work best start q (count + 1)
         counting-on {q = q} g is next =
             let more : places t - count ≡ suc (places t - (count + 1)) = omega (arith, counting-room) in
             let rest = rw (more, next .follows) at (so-far .rest) in

@@ -43,7 +43,7 @@ use Rattle.walker.proofs.Landing.{MoveFits, made-fits, made-entered, MovesMade,
 use Rattle.walker.proofs.Entering.{enter-step}
 use Rattle.walker.proofs.Nets.{empty}
 use Rattle.heap.specs.Heaps.{keyOf}
-use Rattle.front.specs.Fronts.{systemBy, reachedBy, markBy}
+use Rattle.front.specs.Fronts.{systemBy, costs, reachedBy, markBy}
 use Rattle.front.specs.Leads.{lowestBy}
 use Rattle.front.specs.Charts.{Charted, lowestMarked}
 use Rattle.search.specs.Traces.{toGo, routeBy}
@@ -62,10 +62,10 @@ goals-kept (x ∷ xs) (suc v) zero e = refl
 goals-kept (x ∷ xs) (suc v) (suc w) e = goals-kept xs v w e
 
 -- then the same move is the lowest that leads on
-lowest-goals : (t : Tech) (view : View) (work : List ℕ) (best : ℕ) (p : Place) (e : ℕ) (spots others : List ℕ) → SameGoals spots others
-    → lowestBy t view spots work best p e ≡ lowestBy t view others work best p e
-lowest-goals t view work best p e spots others same =
-    ap (λ (goal : Place → Bool). lowestLead (record { Place = Place; moves = 4; step = λ q m. priced (step t view q m); goal = goal }) (reachedBy t work)
+lowest-goals : (t : Tech) (view : View) (bounds work : List ℕ) (best : ℕ) (p : Place) (e : ℕ) (spots others : List ℕ) → SameGoals spots others
+    → lowestBy t view spots bounds work best p e ≡ lowestBy t view others bounds work best p e
+lowest-goals t view bounds work best p e spots others same =
+    ap (λ (goal : Place → Bool). lowestLead (record { Place = Place; moves = 4; step = λ q m. priced (step t view q m); goal = goal }) (reachedBy t bounds work)
     best (markBy t work) p e) (fun-ext (λ q. same (q .vertex)))
 
 -- where something is followed there is no goal
@@ -76,7 +76,7 @@ follow-no-goal S D k p some = by (S .goal p) refl
     by true g = absurd (omega (arith, some, ap (λ (ms : List ℕ). length ms) (follow-goal S D k g)))
     by false g = g
 
-module _ (tech : TechStruct) (seen work : List ℕ) (net from best count start : ℕ) (first : Arrays) (found : List ℕ) where
+module _ (tech : TechStruct) (seen bounds work : List ℕ) (net from best count start : ℕ) (first : Arrays) (found : List ℕ) where
   -- what the net at hand sees
   abbrev view : View
   view = viewBy (gridOf (tech .grid)) seen
@@ -103,7 +103,7 @@ module _ (tech : TechStruct) (seen work : List ℕ) (net from best count start :
     pub fuel : ℕ
     pub made : MovesMade tech (count - left) walk gone
     pub rest : length (moves-from fuel (gone .place)) ≡ left
-    pub joins : 0 < left → OnJoin (techBy tech) view (first .spots) work best (gone .place)
+    pub joins : 0 < left → OnJoin (techBy tech) view (first .spots) bounds work best (gone .place)
     pub goals : 0 < left → SameGoals spots (first .spots)
     pub same : enterAll (techBy tech) view net route (goneAt start) first
         ≡ enterAll (techBy tech) view net (moves-from fuel (gone .place)) gone (record { spots = spots; codes = codes })
@@ -114,7 +114,7 @@ module _ (tech : TechStruct) (seen work : List ℕ) (net from best count start :
     pub long : length plan ≡ length found
 
   -- before the first move
-  pub writing-begun : {walk : Walk} → walk ≡ walkFrom start → TechFits tech → Charted (techBy tech) view (first .spots) work best
+  pub writing-begun : {walk : Walk} → walk ≡ walkFrom start → TechFits tech → Charted (techBy tech) view (first .spots) bounds work best
       → start ≡ lowestMarked (techBy tech) view (first .spots) work → count ≡ length route → Writing (first .spots) (first .codes) found walk from count
   unfolding routeBy goneAt techBy
   writing-begun begun fits charted lowest counted =
@@ -149,16 +149,16 @@ module _ (tech : TechStruct) (seen work : List ℕ) (net from best count start :
     place-good = rw (← so-far .made .is .place) (so-far .made .place)
 
     -- and on a cheapest join
-    pub writing-joins : OnJoin (techBy tech) view (first .spots) work best (placeOf (walk .place))
+    pub writing-joins : OnJoin (techBy tech) view (first .spots) bounds work best (placeOf (walk .place))
     writing-joins = rw (so-far .made .is .place) (so-far .joins some)
 
     -- its number, in the code's words: the bytes still tell the goals
-    pub writing-number : TechFits tech → Charted (techBy tech) view (first .spots) work best → {number : ℕ}
-        → ((e : ℕ) → keyOf (getD work (placeCode (techBy tech) (placeOf (walk .place))) 0) ≡ suc e
-        → number ≡ lowestBy (techBy tech) view spots work best (placeOf (walk .place)) e) → Lowest number
+    pub writing-number : TechFits tech → Charted (techBy tech) view (first .spots) bounds work best → {number : ℕ}
+        → ((e : ℕ) → costs (techBy tech) bounds work (placeCode (techBy tech) (placeOf (walk .place))) ≡ suc e
+        → number ≡ lowestBy (techBy tech) view spots bounds work best (placeOf (walk .place)) e) → Lowest number
     writing-number fits charted {number} low =
         on-lowest (techBy tech) view (first .spots) charted (fits .good) place-good (so-far .joins some) (onward .entry) (λ e is.
-        (rw (so-far .made .is .place) at low) e is ∙ lowest-goals (techBy tech) view work best (so-far .gone .place) e spots (first .spots) (so-far .goals some))
+        (rw (so-far .made .is .place) at low) e is ∙ lowest-goals (techBy tech) view bounds work best (so-far .gone .place) e spots (first .spots) (so-far .goals some))
 
     module _ {number : ℕ} (numbered : Lowest number) {r : SteppedEnum}
         (stepped : IsStepped (gridOf (tech .grid)) view (walk .place .vertex) r (step (techBy tech) view (placeOf (walk .place)) number)) where
@@ -209,7 +209,7 @@ module _ (tech : TechStruct) (seen work : List ℕ) (net from best count start :
             follow-no-goal S D (onward .left) (placeOf (m .next)) (omega (arith, more, so-far .rest, ap (λ (ms : List ℕ). length ms) is-first))
 
         -- after the move
-        pub writing-on : TechFits tech → Charted (techBy tech) view (first .spots) work best → {more after longer : List ℕ} {further : Walk} {next : ℕ}
+        pub writing-on : TechFits tech → Charted (techBy tech) view (first .spots) bounds work best → {more after longer : List ℕ} {further : Walk} {next : ℕ}
             → more ≡ set spots (m .next .vertex) 1
             → after ≡ layAll net (beyond (gridOf (tech .grid)) (directionOf (m .toward)) (m .added) (walk .place .vertex) ++ (m .next .vertex ∷ [])) codes
             → longer ≡ putBits plan at (fieldBits 2 number) → next ≡ at + 2 → further ≡ walkOn walk m

@@ -8,6 +8,7 @@ ghost use Rattle.job.specs.Structs.{gridOf};
 ghost use Rattle.rules.specs.Seen.{viewBy};
 ghost use Rattle.rules.specs.Structs.{techBy};
 ghost use Rattle.plan.specs.Layout.{recordBits};
+ghost use Rattle.bounds.specs.Bounds.{SmallBounds};
 ghost use Rattle.front.specs.Fronts.{Searched};
 ghost use Rattle.front.specs.Charts.{Charted, lowestMarked};
 ghost use Rattle.search.specs.Traces.{joinBySpots};
@@ -31,6 +32,7 @@ pub fn write_join(
     seen: &[u8; 16384],
     spots: &mut [u8; 16384],
     map: &mut [u16],
+    bounds: &[u64; 528],
     largest: usize,
     work: &[u64],
     plan: &mut [u8],
@@ -39,9 +41,9 @@ pub fn write_join(
     start: usize,
     best: u64,
 ) -> Joined
-    requires { ⌜ (Searched tech largest) × (Charted (techBy tech) (viewBy (gridOf (tech .grid)) (now seen)) (now spots) (now work) best)
+    requires { ⌜ (Searched tech largest) × (Charted (techBy tech) (viewBy (gridOf (tech .grid)) (now seen)) (now spots) (now bounds) (now work) best)
         × (start ≡ lowestMarked (techBy tech) (viewBy (gridOf (tech .grid)) (now seen)) (now spots) (now work))
-        × (vertices (gridOf (tech .grid)) ≤ length (now map)) × (at < 2 ^ 39) ⌝ }
+        × (vertices (gridOf (tech .grid)) ≤ length (now map)) × (at < 2 ^ 39) × (SmallBounds (now bounds)) ⌝ }
     ensures answer { λ r. ⌜ IsJoined (techBy tech) (viewBy (gridOf (tech .grid)) (now (seen .entry))) net at
         (record { spots = now (spots .entry); codes = now (map .entry) }) r
         (joinBySpots (techBy tech) (viewBy (gridOf (tech .grid)) (now (seen .entry))) (now (spots .entry))) ⌝ }
@@ -55,13 +57,14 @@ pub fn write_join(
     ensures plan { λ _. ⌜ now (plan .exit) ≡ putBits (now (plan .entry)) at (recordBits (gridOf (tech .grid))
         (joinBySpots (techBy tech) (viewBy (gridOf (tech .grid)) (now (seen .entry))) (now (spots .entry)))) ⌝ }
 {
-    let count = count_moves(tech, seen, spots, largest, work, start, best);
+    let count = count_moves(tech, seen, spots, bounds, largest, work, start, best);
     put_start(plan, tech.grid, at, start, count);
     let walk = write_moves(
         tech,
         seen,
         spots,
         map,
+        bounds,
         largest,
         work,
         plan,

@@ -2,7 +2,7 @@
 ghost use mathlib.Core.Path.{_≡_};
 ghost use mathlib.Core.List.{List};
 ghost use Prim.Native.Nat.{ℕ, _+_, _<_, _≤_, _^_};
-ghost use lib.ListN.{length};
+ghost use lib.ListN.{length, getD};
 ghost use Rattle.bits.specs.Bits.{putBits};
 ghost use Rattle.job.specs.Grid.{vertices};
 ghost use Rattle.job.specs.Structs.{gridOf};
@@ -14,6 +14,8 @@ ghost use Rattle.plan.specs.Layout.{recordBits};
 ghost use Rattle.metal.specs.Codes.{Beyond};
 ghost use Rattle.tree.specs.Spots.{Spots};
 ghost use Rattle.tables.specs.Moves.{Prepared};
+ghost use Rattle.bounds.specs.Bounds.{Bounding, SmallBounds};
+ghost use Rattle.bounds.specs.Fills.{Among};
 ghost use Rattle.front.specs.Fronts.{Searched};
 ghost use Rattle.front.specs.Charts.{Blank};
 ghost use Rattle.front.specs.Lists.{Laid};
@@ -23,6 +25,7 @@ ghost use Rattle.search.specs.Joined.{leftBy, IsJoined, JoinedFits};
 use crate::join::Joined;
 use crate::join::write_join;
 use crate::record::put_none;
+use bounds::fill::fill_bounds;
 use front::clear::clear;
 use front::mark::mark;
 use front::settle::Found;
@@ -37,6 +40,7 @@ fn join_found(
     seen: &[u8; 16384],
     spots: &mut [u8; 16384],
     map: &mut [u16],
+    bounds: &[u64; 528],
     largest: usize,
     near: &mut [u8; 16384],
     work: &mut [u64],
@@ -47,7 +51,8 @@ fn join_found(
     found: Found,
 ) -> Joined
     requires { ⌜ (Searched tech largest) × (n ≡ places (techBy tech)) × (vertices (gridOf (tech .grid)) ≤ length (now map)) × (at < 2 ^ 39)
-        × (Ended (techBy tech) (viewBy (gridOf (tech .grid)) (now seen)) (now spots) (now near) (now work) (found .size) (found .settled) (found .best)) ⌝ }
+        × (Ended (techBy tech) (viewBy (gridOf (tech .grid)) (now seen)) (now spots) (now bounds) (now near) (now work) (found .size) (found .settled) (found .best))
+        × (Bounding (techBy tech) (now spots) (now bounds)) × (SmallBounds (now bounds)) ⌝ }
     ensures answer { λ r. ⌜ IsJoined (techBy tech) (viewBy (gridOf (tech .grid)) (now (seen .entry))) net at
         (record { spots = now (spots .entry); codes = now (map .entry) }) r
         (joinBySpots (techBy tech) (viewBy (gridOf (tech .grid)) (now (seen .entry))) (now (spots .entry))) ⌝ }
@@ -69,12 +74,24 @@ fn join_found(
         put_none(plan, at);
         return Joined::None;
     }
-    let start = mark(tech, seen, spots, largest, near, work, n, settled, best);
+    let start = mark(
+        tech,
+        seen,
+        spots,
+        bounds,
+        largest,
+        near,
+        work,
+        n,
+        settled,
+        best,
+    );
     write_join(
         tech,
         seen,
         spots,
         map,
+        bounds,
         largest,
         work,
         plan,
@@ -100,8 +117,11 @@ pub fn next_join(
     plan: &mut [u8],
     net: u16,
     at: usize,
+    pins: &[usize; 16],
+    count: usize,
 ) -> Joined
-    requires { ⌜ (Searched tech largest) × (Blank (techBy tech) (now work)) × (vertices (gridOf (tech .grid)) ≤ length (now map)) × (at < 2 ^ 39) ⌝ }
+    requires { ⌜ (Searched tech largest) × (Blank (techBy tech) (now work)) × (vertices (gridOf (tech .grid)) ≤ length (now map)) × (at < 2 ^ 39)
+        × (Among (gridOf (tech .grid)) (now spots) (now pins) count) ⌝ }
     requires { ⌜ Prepared (techBy tech) (viewBy (gridOf (tech .grid)) (now seen)) (now rates) (now ground) (now lows) (now highs) ⌝ }
     ensures answer { λ r. ⌜ ((tree unjoined : List ℕ) → Spots (gridOf (tech .grid)) tree unjoined (now (spots .entry)) → Apart (techBy tech) tree unjoined
         → IsJoined (techBy tech) (viewBy (gridOf (tech .grid)) (now (seen .entry))) net at (record { spots = now (spots .entry); codes = now (map .entry) }) r
@@ -118,10 +138,13 @@ pub fn next_join(
     ensures plan { λ _. ⌜ ((tree unjoined : List ℕ) → Spots (gridOf (tech .grid)) tree unjoined (now (spots .entry)) → Apart (techBy tech) tree unjoined
         → now (plan .exit) ≡ putBits (now (plan .entry)) at (recordBits (gridOf (tech .grid))
         (joinOf (techBy tech) (viewBy (gridOf (tech .grid)) (now (seen .entry))) tree unjoined))) ⌝ }
+    ensures fewer { λ _. ⌜ ((v : ℕ) → getD (now (spots .exit)) v 0 ≡ 2 → getD (now (spots .entry)) v 0 ≡ 2) ⌝ }
     ensures work { λ _. ⌜ now (work .exit) ≡ now (work .entry) ⌝ }
 {
     let n = tech.grid.vertices() * 2 * (largest + 1);
     let mut near = [0u8; 16384];
+    let mut bounds: [u64; 528] = [0; 528];
+    fill_bounds(&mut bounds, tech, spots, pins, count);
     let found = settle(
         tech,
         rates,
@@ -130,6 +153,7 @@ pub fn next_join(
         lows,
         highs,
         spots,
+        &bounds,
         largest,
         &mut near,
         work,
@@ -140,6 +164,7 @@ pub fn next_join(
         seen,
         spots,
         map,
+        &bounds,
         largest,
         &mut near,
         work,

@@ -6,6 +6,7 @@ ghost use lib.Dec.{eqb};
 ghost use Rattle.job.specs.Structs.{gridOf};
 ghost use Rattle.rules.specs.Seen.{viewBy};
 ghost use Rattle.rules.specs.Structs.{techBy};
+ghost use Rattle.bounds.specs.Bounds.{SmallBounds};
 ghost use Rattle.front.specs.Fronts.{Searched};
 ghost use Rattle.front.specs.Charts.{Charted, lowestMarked};
 ghost use Rattle.search.specs.Traces.{routeBy};
@@ -30,13 +31,14 @@ pub fn count_moves(
     tech: Tech,
     seen: &[u8; 16384],
     spots: &[u8; 16384],
+    bounds: &[u64; 528],
     largest: usize,
     work: &[u64],
     start: usize,
     best: u64,
 ) -> usize
-    requires { ⌜ (Searched tech largest) × (Charted (techBy tech) (viewBy (gridOf (tech .grid)) (now seen)) (now spots) (now work) best)
-        × (start ≡ lowestMarked (techBy tech) (viewBy (gridOf (tech .grid)) (now seen)) (now spots) (now work)) ⌝ }
+    requires { ⌜ (Searched tech largest) × (Charted (techBy tech) (viewBy (gridOf (tech .grid)) (now seen)) (now spots) (now bounds) (now work) best)
+        × (start ≡ lowestMarked (techBy tech) (viewBy (gridOf (tech .grid)) (now seen)) (now spots) (now work)) × (SmallBounds (now bounds)) ⌝ }
     ensures { λ r. ⌜ r ≡ length (routeBy (techBy tech) (viewBy (gridOf (tech .grid)) (now (seen .entry))) (now (spots .entry)) start) ⌝ }
 {
     let mut place = Place {
@@ -45,7 +47,7 @@ pub fn count_moves(
     };
     let mut count = 0;
     while !ends_at(spots, place.vertex) {
-        let number = lowest_lead(tech, seen, spots, largest, work, place, best);
+        let number = lowest_lead(tech, seen, spots, bounds, largest, work, place, best);
         let Stepped::Legal(made) = step(tech, seen, place, number) else {
             return count;
         };

@@ -10,6 +10,7 @@ ghost use Rattle.rules.specs.Seen.{viewBy};
 ghost use Rattle.rules.specs.Structs.{techBy};
 ghost use Rattle.walker.specs.Entering.{goneAt, enterAll, leftIn};
 ghost use Rattle.walker.specs.Structs.{WalkFits, IsEntered};
+ghost use Rattle.bounds.specs.Bounds.{SmallBounds};
 ghost use Rattle.front.specs.Fronts.{Searched};
 ghost use Rattle.front.specs.Charts.{Charted, lowestMarked};
 ghost use Rattle.search.specs.Traces.{routeBy};
@@ -29,6 +30,7 @@ pub fn write_moves(
     seen: &[u8; 16384],
     spots: &mut [u8; 16384],
     map: &mut [u16],
+    bounds: &[u64; 528],
     largest: usize,
     work: &[u64],
     plan: &mut [u8],
@@ -38,10 +40,10 @@ pub fn write_moves(
     best: u64,
     count: usize,
 ) -> Walk
-    requires { ⌜ (Searched tech largest) × (Charted (techBy tech) (viewBy (gridOf (tech .grid)) (now seen)) (now spots) (now work) best)
+    requires { ⌜ (Searched tech largest) × (Charted (techBy tech) (viewBy (gridOf (tech .grid)) (now seen)) (now spots) (now bounds) (now work) best)
         × (start ≡ lowestMarked (techBy tech) (viewBy (gridOf (tech .grid)) (now seen)) (now spots) (now work))
         × (vertices (gridOf (tech .grid)) ≤ length (now map)) × (from < 2 ^ 40) × (count < 2 ^ 20)
-        × (count ≡ length (routeBy (techBy tech) (viewBy (gridOf (tech .grid)) (now seen)) (now spots) start)) ⌝ }
+        × (count ≡ length (routeBy (techBy tech) (viewBy (gridOf (tech .grid)) (now seen)) (now spots) start)) × (SmallBounds (now bounds)) ⌝ }
     ensures walk { λ r. ⌜ IsEntered r (enterAll (techBy tech) (viewBy (gridOf (tech .grid)) (now (seen .entry))) net
         (routeBy (techBy tech) (viewBy (gridOf (tech .grid)) (now (seen .entry))) (now (spots .entry)) start) (goneAt start)
         (record { spots = now (spots .entry); codes = now (map .entry) })) ⌝ }
@@ -62,7 +64,7 @@ pub fn write_moves(
     let mut left = count;
     while 0 < left {
         let place = walk.place;
-        let number = lowest_lead(tech, seen, spots, largest, work, place, best);
+        let number = lowest_lead(tech, seen, spots, bounds, largest, work, place, best);
         let Stepped::Legal(made) = step(tech, seen, place, number) else {
             return walk;
         };

@@ -4,7 +4,7 @@
 --     Charges      costs as numbers: what entering costs more, what a via owes
 --     Answers      what a step and a via answer
 --     Stepping     one move by the rules is one move by the tables
-mod Tables
+pub mod Tables
 mod Grounds
 mod Charges
 mod Answers

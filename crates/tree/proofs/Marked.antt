@@ -1,5 +1,5 @@
 -- What the tree's bytes tell.
---     spots-begun, begun-long   before the first join of a net
+--     spots-begun, begun-among, begun-long   before the first join of a net
 --     spots-entered      after a vertex is entered
 --     spots-joined       a pin on the tree is no longer unjoined
 --     spot-goal          a byte tells an unjoined pin
@@ -68,6 +68,21 @@ spots-begun g (first ∷ others) metal few on v h =
     by : (a b : Bool) → _≡_ {A = ℕ} (cond a 1 (cond (a || b) 2 0)) (cond (a || false) 1 (cond b 2 0))
     by true b = refl
     by false b = refl
+
+-- every unjoined pin is one of the net's
+pub begun-among : (g : Grid) (pins : List ℕ) → vertices g ≤ 16384 → All (λ v. v < 16384) pins → (v : ℕ) → v < vertices g
+    → getD (begunSpots pins (replicate 16384 0)) v 0 ≡ 2 → member v pins ≡ true
+unfolding Spots spotOf begun member any
+begun-among g pins few on v h is = by pins (sym (spots-begun g pins [] few on v h) ∙ is)
+  where
+    by : (ps : List ℕ) → spotOf (begun ps [] .tree) (begun ps [] .unjoined) v ≡ 2 → member v ps ≡ true
+    by [] e = absurd (omega arith)
+    by (first ∷ others) e = which (eqb v first) (member v others) e
+      where
+        which : (a b : Bool) → _≡_ {A = ℕ} (cond (a || false) 1 (cond b 2 0)) 2 → (a || b) ≡ true
+        which true b e = refl
+        which false true e = refl
+        which false false e = absurd (omega arith)
 
 -- the bytes are as many
 pub begun-long : (pins : List ℕ) → length (begunSpots pins (replicate 16384 0)) ≡ 16384

@@ -182,6 +182,10 @@ module _ (bytes : List ℕ) (tech : TechStruct) (marks found : List ℕ) {count 
             let few : loaded .pins ≤ 16 = rw isLoaded (hand-held .few) in
             record { few = few; there = omega (arith, few, sixteen-now); onGrid = rw own-pins own-array }
 
+        -- they are vertices of the grid
+        pub pins-below : All (λ v. v < vertices (gridOf (tech .grid))) (take (loaded .pins) pins′)
+        pins-below = rw (own-pins, grid) own-below
+
         -- there are so many
         pub own-count : loaded .pins ≡ length own
         own-count = sym (pin-count pins-fit) ∙ ap (λ (l : List ℕ). length l) own-pins

@@ -4,8 +4,8 @@
 //! Both answer the whole call, from the job's bytes to the plan's. Runs end when
 //! there were enough or they have taken long; one is always made.
 //!
-//! Both settle the same places, those that cost less than the join; how many is told
-//! with the library's nanoseconds for each, all that the call does included.
+//! How many places the library settles is told with its nanoseconds for each, all
+//! that the call does included.
 
 use std::time::{Duration, Instant};
 

@@ -13,6 +13,7 @@ use std::collections::BinaryHeap;
 
 use crate::joining::NetAtHand;
 use crate::plan::Join;
+use crate::router::left::Left;
 use crate::rules::board::Board;
 use crate::rules::moves::Move;
 use crate::rules::segment::Segment;
@@ -35,7 +36,6 @@ pub struct Search<'a> {
     on_cheapest: Vec<bool>,
     reached: Vec<u32>,
     heap: BinaryHeap<Reverse<u64>>,
-    settled: u64,
 }
 
 impl<'a> Search<'a> {
@@ -50,14 +50,19 @@ impl<'a> Search<'a> {
             on_cheapest: vec![false; places],
             reached: Vec::new(),
             heap: BinaryHeap::new(),
-            settled: 0,
         }
     }
 
-    /// How many places were settled in all: for each join those that cost less than
-    /// it, and all that can be reached where there is none.
-    pub fn settled(&self) -> u64 {
-        self.settled
+    /// After a search, how many places the library settles for the same join: those
+    /// whose cost with 7/8 of what is left at least is below the join's, and all
+    /// that can be reached where there is none.
+    pub fn settled(&self, join: Option<&Join>, left: &Left) -> u64 {
+        let within = |number: &&u32| {
+            let number = **number as usize;
+            let left = left.from(number >> self.segment_bits);
+            join.is_none_or(|join| 8 * self.cost[number] + 7 * left < 8 * join.cost)
+        };
+        self.reached.iter().filter(within).count() as u64
     }
 
     /// "The cheapest is taken; among equals the lowest start vertex, then the
@@ -102,28 +107,21 @@ impl<'a> Search<'a> {
         self.heap.push(Reverse(cost << PLACE_BITS | number as u64));
     }
 
-    /// The cost of the cheapest join. No route goes on from an unjoined pin. `last` is
-    /// the greatest cost so far, and how many places were settled before it.
+    /// The cost of the cheapest join. No route goes on from an unjoined pin.
     fn reach_a_pin(&mut self, net: &NetAtHand) -> Option<u64> {
         for vertex in net.tree() {
             self.reach(self.number(Place::start(*vertex)), 0);
         }
-        let mut last = (0, 0);
         while let Some(Reverse(entry)) = self.heap.pop() {
             let cost = entry >> PLACE_BITS;
             let number = (entry & ((1 << PLACE_BITS) - 1)) as usize;
             if cost > self.cost[number] {
                 continue;
             }
-            if cost > last.0 {
-                last = (cost, self.settled);
-            }
             let from = self.numbered(number);
             if net.unjoined(from.vertex) {
-                self.settled = last.1;
                 return Some(cost);
             }
-            self.settled += 1;
             for by in Move::ALL {
                 if let Ok(step) = net.view.step(from, by) {
                     self.reach(self.number(step.to), cost + step.cost());

@@ -1,4 +1,4 @@
--- `front::mark::light` meets its contract: what so many moves enter is lit.
+-- `front::mark::light` meets its contract: so many moves are turned back.
 use Prim.Native.Nat.{_-_}
 use native.Mathlib.Omega.{arith}
 use Rattle.job.specs.Structs.{gridOf}
@@ -16,7 +16,7 @@ loop-holds : tie.Need-loop-holds Inv-loop μ-loop
 loop-holds c = lighting-begun _ _ _ ((c .pre) .2)
 
 light-one-requires : tie.Need-light-one-requires Inv-loop μ-loop
-light-one-requires c κs = let pre = (c .before .before .before .pre) in (pre .0, pre .1, (c .before .before .loop .inv) .bytes)
+light-one-requires c κs = let pre = (c .before .before .before .pre) in (pre .0, pre .1, (c .before .before .loop .inv) .bytes, (c .before .loop-test .taken))
 
 add-number : tie.Need-add-number Inv-loop μ-loop
 add-number c = omega (arith, (c .before .before .loop-test .taken))

@@ -1,67 +1,64 @@
 -- `front::mark::mark_place` meets its contract: each way out by its law.
 use borrow.Author.Needs.{needs}
+use mathlib.Core.Path.{ap}
 use native.Mathlib.Omega.{arith}
+use lib.ListN.{length-set}
+use Rattle.rules.specs.Segments.{Place}
 use Rattle.rules.specs.Places.{placeAt}
 use Rattle.rules.specs.Structs.{techBy}
-use Rattle.rules.proofs.Held.{in-array}
 use Rattle.front.proofs.Asking.{largest-asked, item-good}
-use Rattle.front.proofs.Marking.{item-vertex, item-key, item-lowest, asked-not, asked-marked}
+use Rattle.front.proofs.Marking.{item-key, item-cost, item-lowest, asked-not, asked-marked, answered-not, answered-marked}
 use Rattle.front.proofs.mark.mark_place.Statement.{statement}
 use Rattle.front.proofs.mark.mark_place.Tie as tie
 
-add-vertex : tie.Need-add-vertex
-add-vertex c = let pre = (c .before .pre) in omega (arith, largest-asked (pre .0) (pre .1) .1)
-
-mul-vertex : tie.Need-mul-vertex
-mul-vertex c = let pre = (c .before .pre) in omega (arith, largest-asked (pre .0) (pre .1) .1)
-
-div-vertex : tie.Need-div-vertex
-div-vertex c = search needs
-
-element-copy-out-if1 : tie.Need-element-copy-out-if1
-element-copy-out-if1 c = let pre = (c .before .pre) in in-array (pre .0 .fits) (item-vertex (pre .0) (pre .1))
-
-returns : tie.Need-returns
-unfolding placeAt
-returns c = let pre = (c .before .before .before .pre) in asked-not (pre .3) (λ lit. absurd ((c .if1 .taken) lit))
-
 place-of-requires : tie.Need-place-of-requires
-place-of-requires c κs = let pre = (c .before .before .before .pre) in largest-asked (pre .0) (pre .1)
+place-of-requires c κs = largest-asked ((c .before .pre) .0 .0) ((c .before .pre) .0 .1)
 
-lowest-lead-requires : tie.Need-lowest-lead-requires
-lowest-lead-requires c κs =
-    let pre = (c .before .before .before .before .before .pre) in
-    let work = (c .before .before .before .before .before .args) .work .now in
-    let key = item-key (pre .0) (pre .1) _ (c .before .place-of .ensures) work in
-    (pre .0, item-good (pre .0) (pre .1) _ (c .before .place-of .ensures), pre .2, rw key (pre .4), rw key (pre .5))
+lowest-among-requires : tie.Need-lowest-among-requires
+lowest-among-requires c κs =
+    let pre = (c .before .before .before .pre) .0 in
+    let args = (c .before .before .before .args) in
+    let is = (c .before .place-of) .ensures in
+    let cost = item-cost (pre .0) (pre .1) _ is (args .bounds .now) (args .work .now) in
+    let key = item-key (pre .0) (pre .1) _ is (args .bounds .now) (args .work .now) in
+    ((pre .0, item-good (pre .0) (pre .1) _ is, pre .2, rw cost (pre .4), rw key (pre .5), pre .6), λ e at-e. rw is ((c .before .before .before .pre) .1 e (rw cost at at-e)))
 
 same-length : tie.Need-same-length
 same-length c = search needs
 
-returns-2 : tie.Need-returns-2
-returns-2 c =
-    let pre = (c .before .before .before .before .before .before .before .pre) in
-    let told = item-lowest (pre .0) (pre .1) _ (c .before .before .before .place-of .ensures) ((c .before .before .before .before .before .before .before .args) .work .now) _ ((c .before .before .before .before .before .before .before .args) .spots .now) ((c .before .before .before .before .before .before .before .args) .best) (c .before .lowest-lead .ensures) in
-    asked-not (pre .3) (λ lit e is. omega (arith, told e is, (c .if2 .taken)))
+returns : tie.Need-returns
+returns c =
+    let pre = (c .before .before .before .before .before .pre) .0 in
+    let args = (c .before .before .before .before .before .args) in
+    let told = item-lowest (pre .0) (pre .1) _ ((c .before .before .before .place-of) .ensures) (args .bounds .now) (args .work .now) _ (args .spots .now) (args .best) ((c .before .lowest-among) .ensures) in
+    answered-not (asked-not (pre .3) (λ e is. omega (arith, told e is, (c .if1) .taken)))
 
 put-mark-requires : tie.Need-put-mark-requires
-put-mark-requires c κs = let pre = (c .before .before .before .before .before .before .before .before .pre) in (omega (arith, pre .1, pre .2), pre .5)
+put-mark-requires c κs = (omega (arith, (c .before .before .before .before .before .before .pre) .0 .1, (c .before .before .before .before .before .before .pre) .0 .2), (c .before .before .before .before .before .before .pre) .0 .5)
 
 light-requires : tie.Need-light-requires
-light-requires c κs = let pre = (c .before .before .before .before .before .before .before .before .before .before .before .before .pre) in (pre .0 .fits .sized, item-vertex (pre .0) (pre .1), pre .3)
+unfolding techBy
+light-requires c κs = ((c .before .before .before .before .before .before .before .before .before .before .pre) .0 .0 .fits .sized, item-good ((c .before .before .before .before .before .before .before .before .before .before .pre) .0 .0) ((c .before .before .before .before .before .before .before .before .before .before .pre) .0 .1) _ ((c .before .before .before .before .before .before .before .before .place-of) .ensures) .vertex, (c .before .before .before .before .before .before .before .before .before .before .pre) .0 .3)
+
+lower-start-requires : tie.Need-lower-start-requires
+lower-start-requires c κs = ((c .before .before .before .before .before .before .before .before .before .before .before .before .pre) .0 .0, (c .before .before .before .before .before .before .before .before .before .before .before .before .pre) .0 .1, rw ((c .before .before .before .before .before .put-mark) .ensures, length-set _ _ _) ((c .before .before .before .before .before .before .before .before .before .before .before .before .pre) .0 .2), (c .before .before .before .before .before .before .before .before .before .before .before .before .pre) .0 .6)
 
 same-length-2 : tie.Need-same-length-2
 same-length-2 c = search needs
 
-returns-3 : tie.Need-returns-3
+returns-2 : tie.Need-returns-2
 unfolding placeAt techBy
-returns-3 c =
-    let pre = (c .before .before .before .before .before .before .before .before .before .before .before .before .before .pre) in
-    let told = item-lowest (pre .0) (pre .1) _ (c .before .before .before .before .before .before .before .before .before .place-of .ensures) ((c .before .before .before .before .before .before .before .before .before .before .before .before .before .args) .work .now) _ ((c .before .before .before .before .before .before .before .before .before .before .before .before .before .args) .spots .now) ((c .before .before .before .before .before .before .before .before .before .before .before .before .before .args) .best) (c .before .before .before .before .before .before .before .lowest-lead .ensures) in
-    let lit = (c .light .ensures) in
-    asked-marked (λ e is. omega (arith, told e is, (c .before .before .before .before .before .before .if2 .left))) (c .before .before .before .before .put-mark .ensures) (lit .0) (lit .1 .0) (lit .1 .1)
+returns-2 c =
+    let pre = (c .before .before .before .before .before .before .before .before .before .before .before .before .before .pre) .0 in
+    let args = (c .before .before .before .before .before .before .before .before .before .before .before .before .before .args) in
+    let told = item-lowest (pre .0) (pre .1) _ ((c .before .before .before .before .before .before .before .before .before .before .before .place-of) .ensures) (args .bounds .now) (args .work .now) _ (args .spots .now) (args .best) ((c .before .before .before .before .before .before .before .before .before .lowest-among) .ensures) in
+    let vertex = ap (λ (p : Place). p .vertex) ((c .before .before .before .before .before .before .before .before .before .before .before .place-of) .ensures) in
+    let lit = (c .before .before .light) .ensures in
+    answered-marked
+    (asked-marked (λ e is. omega (arith, told e is, (c .before .before .before .before .before .before .before .before .if1) .left)) ((c .before .before .before .before .before .before .put-mark) .ensures) (rw vertex at (lit .0)) (lit .1 .0) (lit .1 .1))
+    ((c .lower-start) .ensures .0) ((c .lower-start) .ensures .1)
 
 pub mark-place-spec : {M : Type 1} → statement M
 mark-place-spec =
-    tie.close (tie.spec add-vertex mul-vertex div-vertex element-copy-out-if1 returns place-of-requires lowest-lead-requires same-length returns-2
-    put-mark-requires light-requires same-length-2 returns-3)
+    tie.close (tie.spec place-of-requires lowest-among-requires same-length returns put-mark-requires light-requires lower-start-requires same-length-2
+    returns-2)

@@ -10,45 +10,45 @@ use Rattle.front.proofs.seed.seed.Statement.{statement}
 use Rattle.front.proofs.seed.seed.Tie as tie
 
 abbrev Inv-loop : tie.InvT-loop
-Inv-loop tech spots largest work₀ n count size₀ from₀ work size from =
-    Seeding (techBy tech) spots work₀ work size from × (from < count → from % 64 ≡ 0)
+Inv-loop tech spots bounds largest work₀ n count size₀ from₀ work size from =
+    Seeding (techBy tech) spots bounds work₀ work size from × (from < count → from % 128 ≡ 0)
 
 abbrev μ-loop : tie.MeasureT-loop
-μ-loop tech spots largest work₀ n count size₀ from₀ work size from = count - from
+μ-loop tech spots bounds largest work₀ n count size₀ from₀ work size from = count - from
 
 vertices-requires : tie.Need-vertices-requires Inv-loop μ-loop
 vertices-requires c κs = (c .before .pre) .0 .fits .sized .small
 
 loop-holds : tie.Need-loop-holds Inv-loop μ-loop
 loop-holds c =
-    let pre = (c .before .before .pre) in (seeding-begun _ _ _ (pre .0 .fits .good) (omega (arith, pre .1, pre .2)) (rw (pre .1) at (pre .3)), λ h. omega arith)
+    let pre = (c .before .before .pre) in (seeding-begun _ _ _ _ (pre .0 .fits .good) (omega (arith, pre .1, pre .2)) (rw (pre .1) at (pre .3)), λ h. omega arith)
 
 block-end-requires : tie.Need-block-end-requires Inv-loop μ-loop
-block-end-requires c κs = omega (arith, (c .loop-test .taken), (c .before .before .vertices .ensures), (c .before .before .before .before .pre) .0 .fits .sized .vertices)
+block-end-requires c κs = omega (arith, (c .loop-test) .taken, (c .before .before .vertices) .ensures, (c .before .before .before .before .pre) .0 .fits .sized .vertices)
 
 seed-block-requires : tie.Need-seed-block-requires Inv-loop μ-loop
 unfolding techBy
 seed-block-requires c κs =
     let pre = (c .before .before .before .before .before .before .pre) in
-    let inv = (c .before .before .before .loop .inv) in
-    let (room, from, to, below) = block-asked (c .before .before .before .before .vertices .ensures) (c .before .before .loop-test .taken) (inv .1 (c .before .before .loop-test .taken)) (pre .0 .fits .sized .vertices) (c .before .block-end .ensures) in
-    (pre .0, pre .1, room, from, to, below, (_, inv .0))
+    let inv = (c .before .before .before .loop) .inv in
+    let (room, from, to, below) = block-asked ((c .before .before .before .before .vertices) .ensures) ((c .before .before .loop-test) .taken) (inv .1 ((c .before .before .loop-test) .taken)) (pre .0 .fits .sized .vertices) ((c .before .block-end) .ensures) in
+    (pre .0, pre .1, room, from, to, below, (_, inv .0), pre .4)
 
 loop-less : tie.Need-loop-less Inv-loop μ-loop
-loop-less c = omega (arith, (c .before .before .before .before .before .loop-test .taken), (c .before .before .before .before .block-end .ensures))
+loop-less c = omega (arith, (c .before .before .before .before .before .loop-test) .taken, (c .before .before .before .before .block-end) .ensures)
 
 loop-again : tie.Need-loop-again Inv-loop μ-loop
 loop-again c =
-    let inv = (c .before .before .before .before .before .before .loop .inv) in
-    let whole = inv .1 (c .before .before .before .before .before .loop-test .taken) in
-    ((c .before .before .seed-block .ensures) _ (inv .0), λ h. omega (arith, (c .before .before .before .before .block-end .ensures), whole))
+    let inv = (c .before .before .before .before .before .before .loop) .inv in
+    let whole = inv .1 ((c .before .before .before .before .before .loop-test) .taken) in
+    ((c .before .before .seed-block) .ensures _ (inv .0), λ h. omega (arith, (c .before .before .before .before .block-end) .ensures, whole))
 
 same-length : tie.Need-same-length Inv-loop μ-loop
 same-length c = search needs
 
 returns : tie.Need-returns Inv-loop μ-loop
 unfolding techBy
-returns c = let pre = (c .before .before .before .before .pre) in rw (pre .1) (seeding-done _ _ _ ((c .before .loop .inv) .0) (omega (arith, (c .loop-test .left), (c .before .before .vertices .ensures))))
+returns c = let pre = (c .before .before .before .before .pre) in rw (pre .1) (seeding-done _ _ _ _ ((c .before .loop) .inv .0) (omega (arith, (c .loop-test) .left, (c .before .before .vertices) .ensures)))
 
 pub seed-spec : {M : Type 1} → statement M
 seed-spec =

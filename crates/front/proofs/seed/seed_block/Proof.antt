@@ -7,11 +7,11 @@ use Rattle.front.proofs.seed.seed_block.Statement.{statement}
 use Rattle.front.proofs.seed.seed_block.Tie as tie
 
 abbrev Inv-loop : tie.InvT-loop
-Inv-loop tech spots largest work₀ n before from to size₀ vertex₀ work size vertex =
-    Blocked (techBy tech) spots work₀ before from to work size vertex
+Inv-loop tech spots bounds largest work₀ n before from to size₀ vertex₀ work size vertex =
+    Blocked (techBy tech) spots bounds work₀ before from to work size vertex
 
 abbrev μ-loop : tie.MeasureT-loop
-μ-loop tech spots largest work₀ n before from to size₀ vertex₀ work size vertex = to - vertex
+μ-loop tech spots bounds largest work₀ n before from to size₀ vertex₀ work size vertex = to - vertex
 
 some-in-requires : tie.Need-some-in-requires Inv-loop μ-loop
 some-in-requires c κs = (c .before .pre) .2
@@ -20,35 +20,35 @@ returns : tie.Need-returns Inv-loop μ-loop
 unfolding techBy
 returns c =
     let pre = (c .before .before .before .pre) in
-    λ found so-far. seeding-skip _ _ _ _ so-far (pre .5) (λ u low high. (c .before .some-in .ensures) (not-some (c .if1 .taken)) u low (omega (arith, pre .4)))
+    λ found so-far. seeding-skip _ _ _ _ _ so-far (pre .5) (λ u low high. (c .before .some-in) .ensures (not-some ((c .if1) .taken)) u low (omega (arith, pre .4)))
 
 loop-holds : tie.Need-loop-holds Inv-loop μ-loop
-loop-holds c = let pre = (c .before .before .before .pre) in blocked-begun _ _ _ _ _ _ (pre .6) (pre .3)
+loop-holds c = blocked-begun _ _ _ _ _ _ _ ((c .before .before .before .pre) .6) ((c .before .before .before .pre) .3)
 
 seed-vertex-requires : tie.Need-seed-vertex-requires Inv-loop μ-loop
 unfolding techBy
 seed-vertex-requires c κs =
     let pre = (c .before .before .before .before .before .before .pre) in
-    let inv = (c .before .before .loop .inv) in
-    (pre .0, pre .1, rw (pre .1) (inv .turns (inv .first .0) (inv .first .1) .laid .heaped), omega (arith, (c .before .loop-test .taken), pre .5))
+    let inv = (c .before .before .loop) .inv in
+    (pre .0, pre .1, rw (pre .1) (inv .turns (inv .first .0) (inv .first .1) .laid .heaped), omega (arith, (c .before .loop-test) .taken, pre .5), pre .7)
 
 add-vertex : tie.Need-add-vertex Inv-loop μ-loop
-add-vertex c = let pre = (c .before .before .before .before .before .before .before .before .before .pre) in omega (arith, (c .before .before .before .before .loop-test .taken), pre .2, pre .4)
+add-vertex c = omega (arith, (c .before .before .before .before .loop-test) .taken, (c .before .before .before .before .before .before .before .before .before .pre) .2, (c .before .before .before .before .before .before .before .before .before .pre) .4)
 
 loop-less : tie.Need-loop-less Inv-loop μ-loop
-loop-less c = omega (arith, (c .before .before .before .before .loop-test .taken))
+loop-less c = omega (arith, (c .before .before .before .before .loop-test) .taken)
 
 loop-again : tie.Need-loop-again Inv-loop μ-loop
 unfolding techBy
 loop-again c =
     let pre = (c .before .before .before .before .before .before .before .before .before .pre) in
-    blocked-on _ _ _ _ _ _ (c .before .before .before .before .before .loop .inv) (c .before .before .before .before .loop-test .taken) (pre .5) (pre .0 .fits .good) ((c .before .before .seed-vertex .ensures) .0) (rw (pre .1) at ((c .before .before .seed-vertex .ensures) .1))
+    blocked-on _ _ _ _ _ _ _ ((c .before .before .before .before .before .loop) .inv) ((c .before .before .before .before .loop-test) .taken) (pre .5) (pre .0 .fits .good) ((c .before .before .seed-vertex) .ensures .0) (rw (pre .1) at ((c .before .before .seed-vertex) .ensures .1))
 
 same-length : tie.Need-same-length Inv-loop μ-loop
-same-length c = blocked-long _ _ _ _ _ _ (c .before .loop .inv)
+same-length c = blocked-long _ _ _ _ _ _ _ ((c .before .loop) .inv)
 
 returns-2 : tie.Need-returns-2 Inv-loop μ-loop
-returns-2 c = blocked-done _ _ _ _ _ _ (c .before .loop .inv) (c .loop-test .left)
+returns-2 c = blocked-done _ _ _ _ _ _ _ ((c .before .loop) .inv) ((c .loop-test) .left)
 
 pub seed-block-spec : {M : Type 1} → statement M
 seed-block-spec =

@@ -4,32 +4,36 @@ use mathlib.Core.Path.{refl}
 use native.Mathlib.Omega.{arith}
 use Rattle.rules.specs.Structs.{techBy}
 use Rattle.rules.proofs.Held.{in-array}
-use Rattle.front.proofs.Asking.{start-asked, start-made, start-below}
+use Rattle.front.proofs.Asking.{start-asked, start-made, start-below, start-left}
+use Rattle.front.proofs.Costing.{told-small}
 use Rattle.front.proofs.seed.seed_vertex.Statement.{statement}
 use Rattle.front.proofs.seed.seed_vertex.Tie as tie
 
 element-copy-out-if1 : tie.Need-element-copy-out-if1
-element-copy-out-if1 c = let pre = (c .before .pre) in in-array (pre .0 .fits) (pre .3)
+element-copy-out-if1 c = in-array ((c .before .pre) .0 .fits) ((c .before .pre) .3)
 
 returns : tie.Need-returns
-returns c = (λ off. (refl, refl), λ on. absurd ((c .if1 .taken) on))
+returns c = (λ off. (refl, refl), λ on. absurd ((c .if1) .taken on))
 
 code-of-requires : tie.Need-code-of-requires
-code-of-requires c κs = let pre = (c .before .before .before .pre) in start-asked (pre .0) (pre .3)
+code-of-requires c κs = start-asked ((c .before .before .before .pre) .0) ((c .before .before .before .pre) .3)
+
+bound-at-requires : tie.Need-bound-at-requires
+bound-at-requires c κs = ((c .before .before .before .before .before .pre) .4, record { small = (c .before .before .before .before .before .pre) .0 .fits .sized .small; there = (c .before .before .before .before .before .pre) .3 })
 
 lower-requires : tie.Need-lower-requires
 unfolding techBy
 lower-requires c κs =
-    let pre = (c .before .before .before .before .before .pre) in
-    (pre .2, omega (arith, pre .1, start-below (pre .0) (pre .3) (c .before .code-of .ensures)), omega arith)
+    ((c .before .before .before .before .before .before .pre) .2, omega (arith, (c .before .before .before .before .before .before .pre) .1, start-below ((c .before .before .before .before .before .before .pre) .0) ((c .before .before .before .before .before .before .pre) .3) ((c .before .before .code-of) .ensures)), omega (arith, told-small _ _ _ ((c .before .before .before .before .before .before .pre) .4) ((c .bound-at) .ensures)))
 
 same-length : tie.Need-same-length
 same-length c = search needs
 
 returns-2 : tie.Need-returns-2
 returns-2 c =
-    let pre = (c .before .before .before .before .before .before .before .before .pre) in
-    (λ off. absurd (off (c .before .before .before .before .before .if1 .left)), λ on. rw (← start-made (pre .0) (pre .3) (c .before .before .before .before .code-of .ensures)) (c .before .before .lower .ensures))
+    let pre = (c .before .before .before .before .before .before .before .before .before .pre) in
+    let left = start-left (pre .0) (pre .3) ((c .before .before .before .before .before .before .before .before .before .args) .bounds .now) ((c .before .before .before .bound-at) .ensures) in
+    (λ off. absurd (off ((c .before .before .before .before .before .before .if1) .left)), λ on. rw (← left, ← start-made (pre .0) (pre .3) ((c .before .before .before .before .before .code-of) .ensures)) ((c .before .before .lower) .ensures))
 
 pub seed-vertex-spec : {M : Type 1} → statement M
-seed-vertex-spec = tie.close (tie.spec element-copy-out-if1 returns code-of-requires lower-requires same-length returns-2)
+seed-vertex-spec = tie.close (tie.spec element-copy-out-if1 returns code-of-requires bound-at-requires lower-requires same-length returns-2)

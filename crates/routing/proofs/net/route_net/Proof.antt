@@ -1,13 +1,28 @@
 -- `routing::net::route_net` meets its contract.
 use borrow.Author.Needs.{needs}
+use Rattle.job.specs.Structs.{gridOf}
+use Rattle.tree.proofs.Marked.{begun-among}
 use Rattle.routing.proofs.net.route_net.Statement.{statement}
 use Rattle.routing.proofs.net.route_net.Tie as tie
 
 begin-tree-requires : tie.Need-begin-tree-requires
-begin-tree-requires c κs = c .before .before .before .before .pre .0 .3
+begin-tree-requires c κs = (c .before .before .before .before .pre) .0 .3
 
 route-records-requires : tie.Need-route-records-requires
-route-records-requires c κs = c .before .before .before .before .before .before .before .before .before .pre
+route-records-requires c κs =
+    let pre = (c .before .before .before .before .before .before .before .before .before .pre) in
+    let known = begun-among (gridOf ((c .before .before .before .before .before .before .before .before .before .args) .tech .grid)) _ (pre .0 .0 .fits .sized .vertices) (pre .0 .3 .onGrid) in (
+      (
+        pre .0 .0,
+        pre .0 .1,
+        pre .0 .2,
+        pre .0 .3,
+        pre .0 .4,
+        pre .0 .5,
+        record { there = pre .0 .3; onGrid = pre .0 .6; known = λ v h is. known v h (rw ((c .before .before .before .before .begin-tree) .ensures) at is) },
+      ),
+      pre .1,
+    )
 
 same-length : tie.Need-same-length
 same-length c = search needs
@@ -19,7 +34,7 @@ same-length-3 : tie.Need-same-length-3
 same-length-3 c = search needs
 
 returns : tie.Need-returns
-returns c = rw (c .before .before .before .before .before .before .before .before .before .before .before .begin-tree .ensures) at (c .before .before .before .before .before .before .route-records .ensures)
+returns c = rw ((c .before .before .before .before .before .before .before .before .before .before .before .begin-tree) .ensures) at ((c .before .before .before .before .before .before .route-records) .ensures)
 
 pub route-net-spec : {M : Type 1} → statement M
 route-net-spec = tie.close (tie.spec begin-tree-requires route-records-requires same-length same-length-2 same-length-3 returns)

@@ -9,6 +9,7 @@ use lib.ListN.{length, take}
 use Rattle.job.specs.Structs.{gridOf}
 use Rattle.rules.specs.Seen.{viewBy}
 use Rattle.rules.specs.Structs.{techBy}
+use Rattle.bounds.specs.Fills.{Among}
 use Rattle.search.specs.Joined.{JoinedFits}
 use Rattle.routing.proofs.Records.{Recording, recording-begun, recording-joined, recording-none, recording-on, recording-done}
 use Rattle.routing.proofs.net.route_records.Statement.{statement}
@@ -17,19 +18,19 @@ use Rattle.routing.proofs.net.route_records.Tie as tie
 abbrev Inv-loop : tie.InvT-loop
 Inv-loop tech rates ground seen lows highs spots₀ map₀ largest work₀ plan₀ net pins count from totals₀ bits₀ left₀ spots map work plan totals bits left =
     Recording tech (viewBy (gridOf (tech .grid)) seen) net (take count pins) count from totals₀ (record { spots = spots₀; codes = map₀ }) plan₀
-    spots map plan totals bits left × (work ≡ work₀)
+    spots map plan totals bits left × (work ≡ work₀) × Among (gridOf (tech .grid)) spots pins count
 
 abbrev μ-loop : tie.MeasureT-loop
 μ-loop tech rates ground seen lows highs spots₀ map₀ largest work₀ plan₀ net pins count from totals₀ bits₀ left₀ spots map work plan totals bits left = left
 
 loop-holds : tie.Need-loop-holds Inv-loop μ-loop
-loop-holds c = (recording-begun _ _ _ _ _ _ _ _ _ (c .before .before .before .pre .0 .5), refl)
+loop-holds c = (recording-begun _ _ _ _ _ _ _ _ _ ((c .before .before .before .pre) .0 .5), refl, (c .before .before .before .pre) .0 .6)
 
 some-unjoined-requires : tie.Need-some-unjoined-requires Inv-loop μ-loop
-some-unjoined-requires c κs = c .before .before .before .before .before .before .pre .0 .3
+some-unjoined-requires c κs = (c .before .before .before .before .before .before .pre) .0 .3
 
 with-net-requires : tie.Need-with-net-requires Inv-loop μ-loop
-with-net-requires c κs = omega (arith, c .before .before .before .before .loop .inv .0 .joined, c .before .before .before .before .before .before .before .before .pre .0 .4)
+with-net-requires c κs = omega (arith, (c .before .before .before .before .loop) .inv .0 .joined, (c .before .before .before .before .before .before .before .before .pre) .0 .4)
 
 same-length : tie.Need-same-length Inv-loop μ-loop
 same-length c = search needs
@@ -42,19 +43,20 @@ same-length-3 c = search needs
 
 returns : tie.Need-returns Inv-loop μ-loop
 returns c =
-    let inv = c .before .before .before .before .before .loop .inv in
-    let (answer, fits) = recording-joined _ _ _ _ _ _ _ _ _ (inv .0) (c .before .before .before .before .before .before .before .before .before .pre .0 .3 .few) (sym (c .before .before .some-unjoined .ensures) ∙ not-true _ (c .before .if1 .taken)) (c .with-net .ensures) in
+    let inv = (c .before .before .before .before .before .loop) .inv in
+    let (answer, fits) = recording-joined _ _ _ _ _ _ _ _ _ (inv .0) ((c .before .before .before .before .before .before .before .before .before .pre) .0 .3 .few) (sym ((c .before .before .some-unjoined) .ensures) ∙ not-true _ ((c .before .if1) .taken)) ((c .with-net) .ensures) in
     (answer, (fits, inv .1))
 
 next-join-requires : tie.Need-next-join-requires Inv-loop μ-loop
 next-join-requires c κs =
-    let inv = c .before .before .before .before .before .before .before .before .loop .inv in
-    let pre = c .before .before .before .before .before .before .before .before .before .before .before .before .pre in (
+    let inv = (c .before .before .before .before .before .before .before .before .loop) .inv in
+    let pre = (c .before .before .before .before .before .before .before .before .before .before .before .before .pre) in (
       (
         pre .0 .0,
         rw (inv .1) (pre .0 .1),
         omega (arith, pre .0 .2, inv .0 .size),
         omega (arith, inv .0 .bounded .reach, pre .0 .4, pre .0 .3 .few),
+        inv .2,
       ),
       pre .1,
     )
@@ -63,13 +65,13 @@ enum-told : tie.Need-enum-told Inv-loop μ-loop
 enum-told c = search needs
 
 add-t34 : tie.Need-add-t34 Inv-loop μ-loop
-add-t34 c = omega (arith, c .before .before .before .before .before .before .before .before .before .before .before .before .before .before .before .before .before .loop .inv .0 .bounded .reach, c .before .before .before .before .before .before .before .before .before .before .before .before .before .before .before .before .before .before .before .before .before .pre .0 .4, c .before .before .before .before .before .before .before .before .before .before .before .before .before .before .before .before .before .before .before .before .before .pre .0 .3 .few)
+add-t34 c = omega (arith, (c .before .before .before .before .before .before .before .before .before .before .before .before .before .before .before .before .before .loop) .inv .0 .bounded .reach, (c .before .before .before .before .before .before .before .before .before .before .before .before .before .before .before .before .before .before .before .before .before .pre) .0 .4, (c .before .before .before .before .before .before .before .before .before .before .before .before .before .before .before .before .before .before .before .before .before .pre) .0 .3 .few)
 
 same-length-4 : tie.Need-same-length-4 Inv-loop μ-loop
 same-length-4 c = search needs
 
 same-length-5 : tie.Need-same-length-5 Inv-loop μ-loop
-same-length-5 c = ap (λ (l : List ℕ). length l) (c .before .before .before .before .before .before .before .before .next-join .ensures .1 .1 .1 .1 .1 ∙ c .before .before .before .before .before .before .before .before .before .before .before .before .before .before .before .before .before .loop .inv .1)
+same-length-5 c = ap (λ (l : List ℕ). length l) ((c .before .before .before .before .before .before .before .before .next-join) .ensures .1 .1 .1 .1 .1 .1 ∙ (c .before .before .before .before .before .before .before .before .before .before .before .before .before .before .before .before .before .loop) .inv .1)
 
 same-length-6 : tie.Need-same-length-6 Inv-loop μ-loop
 same-length-6 c = search needs
@@ -77,11 +79,11 @@ same-length-6 c = search needs
 returns-2 : tie.Need-returns-2 Inv-loop μ-loop
 unfolding techBy
 returns-2 c =
-    let inv = c .before .before .before .before .before .before .before .before .before .before .before .before .before .before .before .before .before .loop .inv in
-    let some = sym (c .before .before .before .before .before .before .before .before .before .before .before .before .before .before .some-unjoined .ensures) ∙ not-false _ (c .before .before .before .before .before .before .before .before .before .before .before .before .before .if1 .left) in
-    let (answer, (fits, (spots, (codes, (plan, work))))) = c .before .before .before .before .before .before .before .before .next-join .ensures in
-    let (routed, small) = recording-none _ _ _ _ _ _ _ _ _ (inv .0) (c .before .before .before .before .before .before .before .before .before .before .before .before .before .before .before .before .before .before .before .before .before .pre .0 .3 .few) (c .before .before .before .before .before .before .before .before .before .before .before .before .before .before .before .before .loop-test .taken) some _ _ _ _
-    (λ tree unjoined marked apart. (answer tree unjoined marked apart, (spots tree unjoined marked apart, (codes tree unjoined marked apart, plan tree unjoined marked apart)))) (c .enum-told .given .1) in
+    let inv = (c .before .before .before .before .before .before .before .before .before .before .before .before .before .before .before .before .before .loop) .inv in
+    let some = sym ((c .before .before .before .before .before .before .before .before .before .before .before .before .before .before .some-unjoined) .ensures) ∙ not-false _ ((c .before .before .before .before .before .before .before .before .before .before .before .before .before .if1) .left) in
+    let (answer, (fits, (spots, (codes, (plan, (fewer, work)))))) = (c .before .before .before .before .before .before .before .before .next-join) .ensures in
+    let (routed, small) = recording-none _ _ _ _ _ _ _ _ _ (inv .0) ((c .before .before .before .before .before .before .before .before .before .before .before .before .before .before .before .before .before .before .before .before .before .pre) .0 .3 .few) ((c .before .before .before .before .before .before .before .before .before .before .before .before .before .before .before .before .loop-test) .taken) some _ _ _ _
+    (λ tree unjoined marked apart. (answer tree unjoined marked apart, (spots tree unjoined marked apart, (codes tree unjoined marked apart, plan tree unjoined marked apart)))) ((c .enum-told) .given .1) in
     (routed, (small, work ∙ inv .1))
 
 enum-known-joined : tie.Need-enum-known-joined Inv-loop μ-loop
@@ -90,34 +92,35 @@ enum-known-joined c = search needs
 with-join-requires : tie.Need-with-join-requires Inv-loop μ-loop
 unfolding JoinedFits
 with-join-requires c κs =
-    let fit = rw (c .before .joined .given .1) at (c .before .before .before .before .before .before .before .before .before .next-join .ensures .1 .0) in
-    let b = c .before .before .before .before .before .before .before .before .before .before .before .before .before .before .before .before .before .before .loop .inv .0 .bounded in
-    let pre = c .before .before .before .before .before .before .before .before .before .before .before .before .before .before .before .before .before .before .before .before .before .before .pre in (
+    let fit = rw ((c .before .joined) .given .1) at ((c .before .before .before .before .before .before .before .before .before .next-join) .ensures .1 .0) in
+    let b = (c .before .before .before .before .before .before .before .before .before .before .before .before .before .before .before .before .before .before .loop) .inv .0 .bounded in
+    let pre = (c .before .before .before .before .before .before .before .before .before .before .before .before .before .before .before .before .before .before .before .before .before .before .pre) in (
       omega (arith, b .cost, fit .0 .cost, pre .0 .4, pre .0 .3 .few),
       omega (arith, b .added, fit .0 .added, pre .0 .4, pre .0 .3 .few),
       omega (arith, b .penalties, fit .0 .penalties, pre .0 .4, pre .0 .3 .few),
     )
 
 sub-left : tie.Need-sub-left Inv-loop μ-loop
-sub-left c = c .before .before .before .before .before .before .before .before .before .before .before .before .before .before .before .before .before .before .loop-test .taken
+sub-left c = (c .before .before .before .before .before .before .before .before .before .before .before .before .before .before .before .before .before .before .loop-test) .taken
 
 loop-less : tie.Need-loop-less Inv-loop μ-loop
-loop-less c = omega (arith, c .before .before .before .before .before .before .before .before .before .before .before .before .before .before .before .before .before .before .loop-test .taken)
+loop-less c = omega (arith, (c .before .before .before .before .before .before .before .before .before .before .before .before .before .before .before .before .before .before .loop-test) .taken)
 
 loop-again : tie.Need-loop-again Inv-loop μ-loop
 unfolding techBy
 loop-again c =
-    let inv = c .before .before .before .before .before .before .before .before .before .before .before .before .before .before .before .before .before .before .before .loop .inv in
-    let some = sym (c .before .before .before .before .before .before .before .before .before .before .before .before .before .before .before .before .some-unjoined .ensures) ∙ not-false _ (c .before .before .before .before .before .before .before .before .before .before .before .before .before .before .before .if1 .left) in
-    let (answer, (fits, (spots, (codes, (plan, work))))) = c .before .before .before .before .before .before .before .before .before .before .next-join .ensures in (
-      recording-on _ _ _ _ _ _ _ _ _ (inv .0) (c .before .before .before .before .before .before .before .before .before .before .before .before .before .before .before .before .before .before .before .before .before .before .before .pre .0 .3 .few) (c .before .before .before .before .before .before .before .before .before .before .before .before .before .before .before .before .before .before .loop-test .taken) some _ _ _ _
+    let inv = (c .before .before .before .before .before .before .before .before .before .before .before .before .before .before .before .before .before .before .before .loop) .inv in
+    let some = sym ((c .before .before .before .before .before .before .before .before .before .before .before .before .before .before .before .before .some-unjoined) .ensures) ∙ not-false _ ((c .before .before .before .before .before .before .before .before .before .before .before .before .before .before .before .if1) .left) in
+    let (answer, (fits, (spots, (codes, (plan, (fewer, work)))))) = (c .before .before .before .before .before .before .before .before .before .before .next-join) .ensures in (
+      recording-on _ _ _ _ _ _ _ _ _ (inv .0) ((c .before .before .before .before .before .before .before .before .before .before .before .before .before .before .before .before .before .before .before .before .before .before .before .pre) .0 .3 .few) ((c .before .before .before .before .before .before .before .before .before .before .before .before .before .before .before .before .before .before .loop-test) .taken) some _ _ _ _
           (λ tree unjoined marked apart. (answer tree unjoined marked apart, (spots tree unjoined marked apart, (codes tree unjoined marked apart, plan tree unjoined marked apart)))) fits
-          (c .before .before .before .before .before .before .before .before .before .map .given) (c .before .before .before .before .before .plan .given) (c .before .before .joined .given .1) (c .with-join .ensures),
+          ((c .before .before .before .before .before .before .before .before .before .map) .given) ((c .before .before .before .before .before .plan) .given) ((c .before .before .joined) .given .1) ((c .with-join) .ensures),
       work ∙ inv .1,
+      record { there = inv .2 .there; onGrid = inv .2 .onGrid; known = λ v h is. inv .2 .known v h (fewer v is) },
     )
 
 with-net-requires-2 : tie.Need-with-net-requires-2 Inv-loop μ-loop
-with-net-requires-2 c κs = omega (arith, c .before .loop .inv .0 .joined, c .before .before .before .before .before .pre .0 .4)
+with-net-requires-2 c κs = omega (arith, (c .before .loop) .inv .0 .joined, (c .before .before .before .before .before .pre) .0 .4)
 
 same-length-7 : tie.Need-same-length-7 Inv-loop μ-loop
 same-length-7 c = search needs
@@ -130,8 +133,8 @@ same-length-9 c = search needs
 
 returns-3 : tie.Need-returns-3 Inv-loop μ-loop
 returns-3 c =
-    let inv = c .before .before .loop .inv in
-    let (answer, fits) = recording-done _ _ _ _ _ _ _ _ _ (inv .0) (c .before .before .before .before .before .before .pre .0 .3 .few) (c .before .loop-test .left) (c .with-net2 .ensures) in
+    let inv = (c .before .before .loop) .inv in
+    let (answer, fits) = recording-done _ _ _ _ _ _ _ _ _ (inv .0) ((c .before .before .before .before .before .before .pre) .0 .3 .few) ((c .before .loop-test) .left) ((c .with-net2) .ensures) in
     (answer, (fits, inv .1))
 
 pub route-records-spec : {M : Type 1} → statement M

@@ -1,19 +1,23 @@
--- `routing::nets::route_nets` meets its contract: what has been routed, then the nets that are left, is the whole.
+-- `routing::nets::route_nets` meets its contract: what has been routed, then the nets that are left, is the whole. The clear runs are those
+-- of the net before, or of a view in which nothing is clear.
 use Prim.Native.Nat.{ℕ}
 use mathlib.Core.Path.{_≡_, refl, ap, _∙_}
 use mathlib.Core.List.{List}
 use native.Mathlib.Omega.{arith}
 use borrow.Author.Needs.{needs}
 use lib.ListN.{length}
+use Rattle.job.specs.Structs.{gridOf}
 use Rattle.rules.specs.Structs.{techBy}
-use Rattle.walker.proofs.Nets.{nets-sized, nets-room, nets-kept, net-below, hand-held, pins-fit, boxes-few}
+use Rattle.runs.specs.Runs.{SomeView}
+use Rattle.runs.proofs.Counts.{none-clear}
+use Rattle.walker.proofs.Nets.{nets-sized, nets-room, nets-kept, net-below, hand-held, pins-fit, pins-below, boxes-few}
 use Rattle.routing.proofs.Netting.{Netting, netting-begun, netting-on, netting-done, fits-all, bounded-next}
 use Rattle.routing.proofs.nets.route_nets.Statement.{statement}
 use Rattle.routing.proofs.nets.route_nets.Tie as tie
 
 abbrev Inv-loop : tie.InvT-loop
 Inv-loop s tech marks map₀ largest work₀ plan₀ nets from seen₀ pins₀ boxes₀ place₀ bits₀ totals₀ net₀ left₀ rates ground lows₀ highs₀ map work plan seen pins boxes place bits totals net left lows highs =
-    Netting s tech marks map₀ plan₀ map pins boxes plan place bits totals net left × (work ≡ work₀)
+    Netting s tech marks map₀ plan₀ map pins boxes plan place bits totals net left × (work ≡ work₀) × SomeView (gridOf (tech .grid)) lows highs
 
 abbrev μ-loop : tie.MeasureT-loop
 μ-loop s tech marks map₀ largest work₀ plan₀ nets from seen₀ pins₀ boxes₀ place₀ bits₀ totals₀ net₀ left₀ rates ground lows₀ highs₀ map work plan seen pins boxes place bits totals net left lows highs = left
@@ -28,22 +32,22 @@ fill-ground-requires : tie.Need-fill-ground-requires Inv-loop μ-loop
 fill-ground-requires c κs = (c .before .before .before .before .before .before .before .before .pre) .1 .fits .sized
 
 loop-holds : tie.Need-loop-holds Inv-loop μ-loop
-loop-holds c = (netting-begun _ _ _ _ _ (c .before .before .before .before .before .before .before .before .before .pre .0) refl refl (c .before .before .before .before .no-totals .ensures), refl)
+loop-holds c = (netting-begun _ _ _ _ _ ((c .before .before .before .before .before .before .before .before .before .pre) .0) refl refl ((c .before .before .before .before .no-totals) .ensures), refl, none-clear _ 16384)
 
 load-net-requires : tie.Need-load-net-requires Inv-loop μ-loop
 load-net-requires c κs =
-    let inv = c .before .before .before .loop .inv .0 in
+    let inv = (c .before .before .before .loop) .inv .0 in
     let fits = nets-sized _ _ _ _ (inv .held) in
-    (fits .sized .small, fits .short, hand-held _ _ _ _ _ (inv .nets) (c .before .before .loop-test .taken) .room)
+    (fits .sized .small, fits .short, hand-held _ _ _ _ _ (inv .nets) ((c .before .before .loop-test) .taken) .room)
 
 add-net : tie.Need-add-net Inv-loop μ-loop
-add-net c = omega (arith, net-below _ _ _ _ _ (c .before .before .before .before .loop .inv .0 .nets) (c .before .before .before .loop-test .taken))
+add-net c = omega (arith, net-below _ _ _ _ _ ((c .before .before .before .before .loop) .inv .0 .nets) ((c .before .before .before .loop-test) .taken))
 
 see-net-requires : tie.Need-see-net-requires Inv-loop μ-loop
 see-net-requires c κs =
-    let inv = c .before .before .before .before .before .before .before .before .loop .inv .0 in
-    let some = c .before .before .before .before .before .before .before .loop-test .taken in
-    let loaded = c .before .before .before .before .load-net .ensures in
+    let inv = (c .before .before .before .before .before .before .before .before .loop) .inv .0 in
+    let some = (c .before .before .before .before .before .before .before .loop-test) .taken in
+    let loaded = (c .before .before .before .before .load-net) .ensures in
     let own = pins-fit _ _ _ _ _ (inv .nets) some (loaded .0) (loaded .1 .0) (loaded .1 .1) in (
       (
         nets-sized _ _ _ _ (inv .held) .sized,
@@ -55,15 +59,15 @@ see-net-requires c κs =
     )
 
 fill-runs-requires : tie.Need-fill-runs-requires Inv-loop μ-loop
-fill-runs-requires c κs = (c .before .before .before .before .before .before .before .before .before .before .before .before .before .before .before .before .before .before .before .before .before .before .pre) .1 .fits .sized
+fill-runs-requires c κs = ((c .before .before .before .before .before .before .before .before .before .before .before .before .before .before .before .before .before .before .before .before .before .before .pre) .1 .fits .sized, (c .before .before .before .before .before .before .before .before .before .before .before .before .loop) .inv .2)
 
 route-net-requires : tie.Need-route-net-requires Inv-loop μ-loop
 unfolding techBy
 route-net-requires c κs =
-    let inv = c .before .before .before .before .before .before .before .before .before .before .before .before .before .before .before .before .before .before .before .before .before .before .loop .inv in
-    let pre = c .before .before .before .before .before .before .before .before .before .before .before .before .before .before .before .before .before .before .before .before .before .before .before .before .before .before .before .before .before .before .before .before .pre in
-    let some = c .before .before .before .before .before .before .before .before .before .before .before .before .before .before .before .before .before .before .before .before .before .loop-test .taken in
-    let loaded = c .before .before .before .before .before .before .before .before .before .before .before .before .before .before .before .before .before .before .load-net .ensures in (
+    let inv = (c .before .before .before .before .before .before .before .before .before .before .before .before .before .before .before .before .before .before .before .before .before .before .loop) .inv in
+    let pre = (c .before .before .before .before .before .before .before .before .before .before .before .before .before .before .before .before .before .before .before .before .before .before .before .before .before .before .before .before .before .before .before .before .pre) in
+    let some = (c .before .before .before .before .before .before .before .before .before .before .before .before .before .before .before .before .before .before .before .before .before .loop-test) .taken in
+    let loaded = (c .before .before .before .before .before .before .before .before .before .before .before .before .before .before .before .before .before .before .load-net) .ensures in (
       (
         pre .1,
         rw (inv .1) (pre .2),
@@ -71,38 +75,40 @@ route-net-requires c κs =
         pins-fit _ _ _ _ _ (inv .0 .nets) some (loaded .0) (loaded .1 .0) (loaded .1 .1),
         omega (arith, net-below _ _ _ _ _ (inv .0 .nets) some),
         bounded-next _ _ _ _ _ (inv .0),
+        pins-below _ _ _ _ _ (inv .0 .nets) some (loaded .0) (loaded .1 .0) (loaded .1 .1),
       ),
-      record { prices = (c .before .before .before .before .before .before .before .before .before .before .before .before .before .before .before .before .before .before .before .before .before .before .before .before .before .fill-rates .ensures); places = (c .before .before .before .before .before .before .before .before .before .before .before .before .before .before .before .before .before .before .before .before .before .before .before .fill-ground .ensures); low = (c .before .before .before .before .before .before .before .before .before .fill-runs .ensures) .0; high = (c .before .before .before .before .before .before .before .before .before .fill-runs .ensures) .1 },
+      record { prices = ((c .before .before .before .before .before .before .before .before .before .before .before .before .before .before .before .before .before .before .before .before .before .before .before .before .before .fill-rates) .ensures); places = ((c .before .before .before .before .before .before .before .before .before .before .before .before .before .before .before .before .before .before .before .before .before .before .before .fill-ground) .ensures); low = ((c .before .before .before .before .before .before .before .before .before .fill-runs) .ensures) .0; high = ((c .before .before .before .before .before .before .before .before .before .fill-runs) .ensures) .1 },
     )
 
 sub-left : tie.Need-sub-left Inv-loop μ-loop
-sub-left c = omega (arith, c .before .before .before .before .before .before .before .before .before .before .before .before .before .before .before .before .before .before .before .before .before .before .before .before .before .before .before .before .before .loop-test .taken)
+sub-left c = omega (arith, (c .before .before .before .before .before .before .before .before .before .before .before .before .before .before .before .before .before .before .before .before .before .before .before .before .before .before .before .before .before .loop-test) .taken)
 
 loop-less : tie.Need-loop-less Inv-loop μ-loop
-loop-less c = omega (arith, c .before .before .before .before .before .before .before .before .before .before .before .before .before .before .before .before .before .before .before .before .before .before .before .before .before .before .before .before .before .loop-test .taken)
+loop-less c = omega (arith, (c .before .before .before .before .before .before .before .before .before .before .before .before .before .before .before .before .before .before .before .before .before .before .before .before .before .before .before .before .before .loop-test) .taken)
 
 loop-again : tie.Need-loop-again Inv-loop μ-loop
 loop-again c =
-    let inv = c .before .before .before .before .before .before .before .before .before .before .before .before .before .before .before .before .before .before .before .before .before .before .before .before .before .before .before .before .before .before .loop .inv in
-    let loaded = c .before .before .before .before .before .before .before .before .before .before .before .before .before .before .before .before .before .before .before .before .before .before .before .before .before .before .load-net .ensures in
-    let (answer, (fits, work)) = c .before .before .before .before .before .before .before .route-net .ensures in (
-      netting-on _ _ _ _ _ (inv .0) (c .before .before .before .before .before .before .before .before .before .before .before .before .before .before .before .before .before .before .before .before .before .before .before .before .before .before .before .before .before .loop-test .taken) (loaded .0) (loaded .1 .0) (loaded .1 .1) _ (c .before .before .before .before .before .before .before .before .before .before .before .before .before .before .before .before .before .before .before .before .before .see-net .ensures) _ answer fits (c .before .before .plan .given),
+    let inv = (c .before .before .before .before .before .before .before .before .before .before .before .before .before .before .before .before .before .before .before .before .before .before .before .before .before .before .before .before .before .before .loop) .inv in
+    let loaded = (c .before .before .before .before .before .before .before .before .before .before .before .before .before .before .before .before .before .before .before .before .before .before .before .before .before .before .load-net) .ensures in
+    let (answer, (fits, work)) = (c .before .before .before .before .before .before .before .route-net) .ensures in (
+      netting-on _ _ _ _ _ (inv .0) ((c .before .before .before .before .before .before .before .before .before .before .before .before .before .before .before .before .before .before .before .before .before .before .before .before .before .before .before .before .before .loop-test) .taken) (loaded .0) (loaded .1 .0) (loaded .1 .1) _ ((c .before .before .before .before .before .before .before .before .before .before .before .before .before .before .before .before .before .before .before .before .before .see-net) .ensures) _ answer fits ((c .before .before .plan) .given),
       work ∙ inv .1,
+      (let (lower, higher) = (c .before .before .before .before .before .before .before .before .before .before .before .before .before .before .before .before .before .fill-runs) .ensures in record { view = _; lower = lower; higher = higher }),
     )
 
 same-length : tie.Need-same-length Inv-loop μ-loop
-same-length c = nets-kept _ _ _ _ _ (c .before .loop .inv .0 .nets) .size
+same-length c = nets-kept _ _ _ _ _ ((c .before .loop) .inv .0 .nets) .size
 
 same-length-2 : tie.Need-same-length-2 Inv-loop μ-loop
-same-length-2 c = ap (λ (l : List ℕ). length l) (c .before .loop .inv .1)
+same-length-2 c = ap (λ (l : List ℕ). length l) ((c .before .loop) .inv .1)
 
 same-length-3 : tie.Need-same-length-3 Inv-loop μ-loop
-same-length-3 c = c .before .loop .inv .0 .long
+same-length-3 c = (c .before .loop) .inv .0 .long
 
 returns : tie.Need-returns Inv-loop μ-loop
 returns c =
-    let inv = c .before .loop .inv in
-    (netting-done _ _ _ _ _ (inv .0) (c .loop-test .left), (fits-all _ _ _ _ _ (inv .0), inv .1))
+    let inv = (c .before .loop) .inv in
+    (netting-done _ _ _ _ _ (inv .0) ((c .loop-test) .left), (fits-all _ _ _ _ _ (inv .0), inv .1))
 
 pub route-nets-spec : {M : Type 1} → statement M
 route-nets-spec =

@@ -39,7 +39,7 @@ loop-less c = omega arith
 loop-again : tie.Need-loop-again Inv-loop μ-loop
 loop-again c =
     let pre = c .before .before .before .before .before .before .pre in
-    low-turn _ _ _ _ _ (pre .0) (pre .3) (c .before .before .before .before .loop .inv) (omega arith) (c .more .ensures)
+    low-turn _ _ _ _ _ (pre .3) (c .before .before .before .before .loop .inv) (omega arith) (c .more .ensures)
 
 same-length : tie.Need-same-length Inv-loop μ-loop
 same-length c = c .before .loop .inv .size

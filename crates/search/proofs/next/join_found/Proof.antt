@@ -18,13 +18,13 @@ returns : tie.Need-returns
 unfolding techBy
 returns c =
     let pre = (c .before .before .before .before .before .before .before .before .pre) in
-    with-layout _ _ _ _ _ _ _ _ (written-none _ _ _ _ _ _ (none-found _ _ (pre .0 .fits .good) (pre .4) (c .before .before .before .before .if1 .taken)) (c .before .before .put-none .ensures)) (laid-end (pre .1) (pre .4)) (beyond-refl _ _)
+    with-layout _ _ _ _ _ _ _ _ (written-none _ _ _ _ _ _ (none-found _ _ (pre .0 .fits .good) (pre .5) (pre .4) ((c .before .before .before .before .if1) .taken)) ((c .before .before .put-none) .ensures)) (laid-end (pre .1) (pre .4)) (beyond-refl _ _)
 
 mark-requires : tie.Need-mark-requires
-mark-requires c κs = let pre = (c .before .before .before .before .before .before .before .pre) in (pre .0, pre .1, (c .before .before .before .if1 .left), (_, pre .4))
+mark-requires c κs = let pre = (c .before .before .before .before .before .before .before .pre) in (pre .0, pre .1, ((c .before .before .before .if1) .left), (_, pre .4), pre .5, pre .6)
 
 write-join-requires : tie.Need-write-join-requires
-write-join-requires c κs = let pre = (c .before .before .before .before .before .before .before .before .before .before .before .before .before .before .pre) in (pre .0, (c .before .before .before .before .before .before .mark .ensures) .0, (c .before .before .before .before .before .before .mark .ensures) .1 .0, pre .2, pre .3)
+write-join-requires c κs = let pre = (c .before .before .before .before .before .before .before .before .before .before .before .before .before .before .pre) in (pre .0, ((c .before .before .before .before .before .before .mark) .ensures) .0, ((c .before .before .before .before .before .before .mark) .ensures) .1 .0, pre .2, pre .3, pre .6)
 
 same-length-2 : tie.Need-same-length-2
 same-length-2 c = search needs
@@ -40,7 +40,7 @@ unfolding techBy
 returns-2 c =
     let pre = (c .before .before .before .before .before .before .before .before .before .before .before .before .before .before .before .before .before .before .before .pre) in
     let (last, laid) = laid-end (pre .1) (pre .4) in
-    with-layout _ _ _ _ _ _ _ _ (c .before .before .before .before .write-join .ensures) (last, (c .before .before .before .before .before .before .before .before .before .before .before .mark .ensures) .1 .1 .0 _ last laid) ((c .before .before .before .before .before .before .before .before .before .before .before .mark .ensures) .1 .1 .1)
+    with-layout _ _ _ _ _ _ _ _ ((c .before .before .before .before .write-join) .ensures) (last, ((c .before .before .before .before .before .before .before .before .before .before .before .mark) .ensures) .1 .1 .0 _ last laid) (((c .before .before .before .before .before .before .before .before .before .before .before .mark) .ensures) .1 .1 .1)
 
 pub join-found-spec : {M : Type 1} → statement M
 join-found-spec =

@@ -1,0 +1,130 @@
+-- The table of the box of the unjoined pins is a bound on what is left.
+--     bounding     it is, once all three axes are filled
+use Prim.Native.Nat.{ℕ, _+_, _-_, _*_, _%_, _≤_, _<_}
+use mathlib.Core.Path.{_≡_, refl, ap, _∙_}
+use mathlib.Core.List.{List}
+use mathlib.Core.Bool.{Bool, true, false, cond}
+use native.Mathlib.Omega.{arith}
+use lib.ListN.{getD, take}
+use lib.Dec.{eqb}
+use borrow.Author.Tests.{lt-ltb, le-ltb, eqb-true, eqb-false}
+use Rattle.job.specs.Grid.{Grid, vertices}
+use Rattle.job.specs.Structs.{gridOf}
+use Rattle.job.specs.declared.groups.Box.{Box}
+use Rattle.job.specs.declared.groups.Layer.{Layer as LayerStruct}
+use Rattle.paths.specs.Systems.{to}
+use Rattle.paths.specs.Distances.{Cost, fin, inf, plus}
+use Rattle.rules.specs.Tracks.{layerOf, rowOf, columnOf}
+use Rattle.rules.specs.Views.{View}
+use Rattle.rules.specs.Segments.{Place}
+use Rattle.rules.specs.Prices.{Tech, lineOf, base, guideAt, shortAt, sumCost, entering}
+use Rattle.rules.specs.Steps.{step, priced}
+use Rattle.rules.specs.Places.{GoodPlace}
+use Rattle.rules.specs.Structs.{TechFits, lineAt, techBy}
+use Rattle.rules.specs.declared.price.Tech.{Tech as TechStruct}
+use Rattle.rules.proofs.Vertices.{vertex-below}
+use Rattle.rules.proofs.Neighbours.{entered-below}
+use Rattle.rules.proofs.Segments.{move-led}
+use Rattle.rules.proofs.Moves.{step-parts}
+use Rattle.rules.proofs.Held.{line-held}
+use Rattle.bounds.specs.Bounds.{boundAt, Bounding}
+use Rattle.bounds.specs.Fills.{Among, Around, AtMost, leaves, AxisFilled}
+use Rattle.bounds.proofs.Coordinates.{Changed, column, row, layer, changed, small-sum}
+use Rattle.bounds.proofs.Axes.{leaves-none, leaves-next}
+
+-- ---- what a move costs at least
+
+-- a price with penalties
+plus-least : (b : ℕ) (x : Cost) {n : ℕ} → plus b x ≡ fin n → b ≤ n
+plus-least b (fin k) {n} e = let sum : b + k ≡ n = cc in omega arith
+plus-least b inf {n} e = let z : _≡_ {A = ℕ} 0 1 = cc in omega arith
+
+-- entering costs at least the wire or the via
+entering-least : (t : Tech) (view : View) (v w m : ℕ) {n : ℕ} → entering t view v w m ≡ fin n → base t v w m ≤ n
+unfolding entering
+entering-least t view v w m e = plus-least (base t v w m) (sumCost (guideAt t view w) (shortAt t view w)) e
+
+module _ {t : TechStruct} (tech : TechFits t) {v w : ℕ} (on : v < vertices (gridOf (t .grid))) (into : w < vertices (gridOf (t .grid))) where
+  -- a step costs at least the cheapest wire
+  wire-least : {wire : ℕ} (m : ℕ) → AtMost (t .layers .wire) (t .grid .layers) wire → m < 2 → wire ≤ base (techBy t) v w m
+  unfolding base lineAt
+  wire-least m wires few =
+      let held = ap (λ (l : LayerStruct). l .wire) (line-held tech into) in
+      rw (lt-ltb m 2 few) (omega (arith, held, wires .lowest _ (vertex-below (gridOf (t .grid)) into .layer)))
+
+  -- a via costs at least the cheapest via: the lower of its layers is not the top one
+  via-least : {via : ℕ} (m : ℕ) → AtMost (t .layers .via) (t .grid .layers - 1) via → 2 ≤ m → m < 4
+      → layerOf (gridOf (t .grid)) w + 1 ≡ layerOf (gridOf (t .grid)) v + 2 * (m % 2) → via ≤ base (techBy t) v w m
+  unfolding base lineAt
+  via-least {via} m vias some few next = rw (le-ltb m 2 some) (by (eqb m 2) refl)
+    where
+      by : (b : Bool) → eqb m 2 ≡ b → via ≤ cond b (lineOf (techBy t) w .via) (lineOf (techBy t) v .via)
+      by true e =
+          let down = eqb-true m 2 e in
+          let held = ap (λ (l : LayerStruct). l .via) (line-held tech into) in
+          omega (arith, held, vias .lowest (layerOf (gridOf (t .grid)) w) (omega (arith, down, next, vertex-below (gridOf (t .grid)) on .layer)))
+      by false e =
+          let up : m ≡ 3 = omega (arith, eqb-false m 2 e, some, few) in
+          let held = ap (λ (l : LayerStruct). l .via) (line-held tech on) in
+          omega (arith, held, vias .lowest (layerOf (gridOf (t .grid)) v) (omega (arith, up, next, vertex-below (gridOf (t .grid)) into .layer)))
+
+-- ---- the table
+
+module _ {t : TechStruct} (tech : TechFits t) (box : Box) (wire via : ℕ) (found rows columns bounds : List ℕ)
+    (row-axis : AxisFilled found rows 1 (t .grid .rows) (box .rows) wire)
+    (column-axis : AxisFilled rows columns 258 (t .grid .columns) (box .columns) wire)
+    (layer-axis : AxisFilled columns bounds 516 (t .grid .layers) (box .layers) via) where
+  abbrev g : Grid
+  g = gridOf (t .grid)
+
+  -- what a vertex leaves: what its coordinates leave
+  bound-told : (v : ℕ) → v < vertices g → boundAt g bounds v
+      ≡ leaves (box .rows) wire (rowOf g v) + (leaves (box .columns) wire (columnOf g v) + leaves (box .layers) via (layerOf g v))
+  unfolding boundAt
+  bound-told v on =
+      let b = vertex-below g on in
+      let r = layer-axis .kept (1 + rowOf g v) (omega (arith, b .row, tech .sized .small .rows))
+      ∙ column-axis .kept (1 + rowOf g v) (omega (arith, b .row, tech .sized .small .rows)) ∙ row-axis .filled (rowOf g v) (b .row) in
+      let c = layer-axis .kept (258 + columnOf g v) (omega (arith, b .column, tech .sized .small .columns)) ∙ column-axis .filled (columnOf g v) (b .column) in
+      rw (r, c, layer-axis .filled (layerOf g v) (b .layer)) refl
+
+  -- no move lowers it by more than 7 times its price
+  told-nearer : {v w m c : ℕ} → v < vertices g → w < vertices g → Changed g m v w → (m < 2 → wire ≤ c)
+      → (2 ≤ m → m < 4 → layerOf g w + 1 ≡ layerOf g v + 2 * (m % 2) → via ≤ c) → boundAt g bounds v ≤ 7 * c + boundAt g bounds w
+  told-nearer {v} {w} {m} {c} on into (column few on-column same-layer same-row next) wires vias =
+      let r = ap (leaves (box .rows) wire) same-row in
+      let l = ap (leaves (box .layers) via) same-layer in
+      let less = leaves-next (box .columns) wire (columnOf g v) (columnOf g w) (omega arith) (omega arith) in
+      omega (arith, bound-told v on, bound-told w into, r, l, less, wires few)
+  told-nearer {v} {w} {m} {c} on into (row few on-row same-layer same-column next) wires vias =
+      let k = ap (leaves (box .columns) wire) same-column in
+      let l = ap (leaves (box .layers) via) same-layer in
+      let less = leaves-next (box .rows) wire (rowOf g v) (rowOf g w) (omega arith) (omega arith) in
+      omega (arith, bound-told v on, bound-told w into, k, l, less, wires few)
+  told-nearer {v} {w} {m} {c} on into (layer some few same-row same-column next) wires vias =
+      let r = ap (leaves (box .rows) wire) same-row in
+      let k = ap (leaves (box .columns) wire) same-column in
+      let less = leaves-next (box .layers) via (layerOf g v) (layerOf g w) (omega arith) (omega arith) in
+      omega (arith, bound-told v on, bound-told w into, r, k, less, vias some few next)
+
+  pub bounding : {spots pins : List ℕ} {count : ℕ} → Among g spots pins count → Around g spots (take count pins) box
+      → AtMost (t .layers .wire) (t .grid .layers) wire → AtMost (t .layers .via) (t .grid .layers - 1) via → Bounding (techBy t) spots bounds
+  unfolding techBy
+  bounding {spots} among around wires vias = record { none = none; nearer = nearer; small = small-sum g bounds (layer-axis .small) }
+    where
+      none : (v : ℕ) → v < vertices g → getD spots v 0 ≡ 2 → boundAt g bounds v ≡ 0
+      none v on unjoined =
+          let in-box = around .takes v (among .known v on unjoined) unjoined in
+          omega (arith, bound-told v on, leaves-none _ wire _ (in-box .row), leaves-none _ wire _ (in-box .column), leaves-none _ via _ (in-box .layer))
+
+      nearer : (view : View) {p q : Place} (m : ℕ) {c : ℕ} → GoodPlace (techBy t) p → priced (step (techBy t) view p m) ≡ to c q
+          → boundAt g bounds (p .vertex) ≤ 7 * c + boundAt g bounds (q .vertex)
+      nearer view {p} {q} m {c} good e =
+          let went = step-parts (techBy t) view p m e in
+          let led = move-led view p m (went .vertex) (went .enter) (tech .good) (good .vertex) (went .does) in
+          let least = entering-least (techBy t) view (p .vertex) (went .vertex) m (went .pays) in
+          let into = entered-below g m (good .vertex) (went .enters) in
+          rw (led .vertex)
+          (told-nearer (good .vertex) into (changed g m (good .vertex) (went .enters))
+          (λ few. omega (arith, wire-least tech (good .vertex) into m wires few, least, led .cost))
+          (λ some few next. omega (arith, via-least tech (good .vertex) into m vias some few next, least, led .cost)))

@@ -1,0 +1,34 @@
+-- A lower bound on what is left from a vertex to the nearest unjoined pin, times 7, as the code holds it: an entry for each row, column and layer.
+--     boundOf, boundAt     what is left at least, by coordinates and by the vertex's number
+--     SmallBounds          so small that the code's sums fit
+--     Bounding             it is such a bound
+use Prim.Native.Nat.{ℕ, _+_, _*_, _^_, _≤_, _<_}
+use mathlib.Core.Path.{_≡_}
+use mathlib.Core.List.{List}
+use lib.ListN.{getD}
+use Rattle.job.specs.Grid.{Grid, Vertex, vertices}
+use Rattle.paths.specs.Systems.{to}
+use Rattle.rules.specs.Tracks.{layerOf, rowOf, columnOf}
+use Rattle.rules.specs.Views.{View}
+use Rattle.rules.specs.Segments.{Place}
+use Rattle.rules.specs.Prices.{Tech}
+use Rattle.rules.specs.Steps.{step, priced}
+use Rattle.rules.specs.Places.{GoodPlace}
+
+-- rows begin at 1, columns at 258, layers at 516: one less or one more than a coordinate stays in the array
+abbrev pub boundOf : (bounds : List ℕ) → Vertex → ℕ
+boundOf bounds x = getD bounds (1 + x .row) 0 + (getD bounds (258 + x .column) 0 + getD bounds (516 + x .layer) 0)
+
+-- what is left at least from a vertex, times 7: what its row, its column and its layer leave
+unfoldable pub boundAt : Grid → (bounds : List ℕ) → (v : ℕ) → ℕ
+boundAt g bounds v = getD bounds (1 + rowOf g v) 0 + (getD bounds (258 + columnOf g v) 0 + getD bounds (516 + layerOf g v) 0)
+
+unfoldable pub SmallBounds : (bounds : List ℕ) → Type 0
+SmallBounds bounds = (k : ℕ) → getD bounds k 0 ≤ 2 ^ 21
+
+-- nothing is left at an unjoined pin, no move lowers what is left by more than 7 times its price, and all of it is small
+pub record Bounding (t : Tech) (spots bounds : List ℕ) : Type 0 where
+  pub none : (v : ℕ) → v < vertices (t .grid) → getD spots v 0 ≡ 2 → boundAt (t .grid) bounds v ≡ 0
+  pub nearer : (view : View) {p q : Place} (m : ℕ) {c : ℕ} → GoodPlace t p → priced (step t view p m) ≡ to c q
+      → boundAt (t .grid) bounds (p .vertex) ≤ 7 * c + boundAt (t .grid) bounds (q .vertex)
+  pub small : (v : ℕ) → boundAt (t .grid) bounds v ≤ 2 ^ 23

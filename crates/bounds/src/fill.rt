@@ -1,0 +1,137 @@
+// The bound made for the unjoined pins of a net: the steps off their box, each at the cheapest price.
+ghost use mathlib.Core.Path.{_≡_};
+ghost use Prim.Native.Nat.{_+_, _-_, _≤_, _<_};
+ghost use lib.ListN.{length, take};
+ghost use Rattle.job.specs.Structs.{Small, gridOf, vertexOf};
+ghost use Rattle.rules.specs.Structs.{TechFits, techBy};
+ghost use Rattle.bounds.specs.Bounds.{SmallBounds, Bounding};
+ghost use Rattle.bounds.specs.Fills.{Among, Widened, WidenedBox, Around, AtMost, leaves, AxisFilled};
+use job::grid::Grid;
+use job::grid::Vertex;
+use job::groups::Box;
+use job::groups::Span;
+use rules::price::Tech;
+use rules::track::vertex_by;
+use tree::UNJOINED;
+
+// The dearest that a layer line can name.
+const MOST: usize = 1023;
+
+fn lesser(a: usize, b: usize) -> usize
+    ensures { λ r. ⌜ (r ≤ a) × (r ≤ b) ⌝ }
+{
+    if a < b { a } else { b }
+}
+
+fn greater(a: usize, b: usize) -> usize
+    ensures { λ r. ⌜ (a ≤ r) × (b ≤ r) ⌝ }
+{
+    if a < b { b } else { a }
+}
+
+// How far a number lies above another; 0 if it does not.
+fn above(a: usize, b: usize) -> usize
+    ensures { λ r. ⌜ r ≡ a - b ⌝ }
+{
+    if a < b { 0 } else { a - b }
+}
+
+// A span that reaches as far as a coordinate too.
+fn widened(span: Span, at: usize) -> Span
+    ensures { λ r. ⌜ Widened span at r ⌝ }
+{
+    Span {
+        low: lesser(span.low, at),
+        high: greater(span.high, at),
+    }
+}
+
+fn widened_box(around: Box, vertex: Vertex) -> Box
+    ensures { λ r. ⌜ WidenedBox around (vertexOf vertex) r ⌝ }
+{
+    let layers = widened(around.layers, vertex.layer);
+    let rows = widened(around.rows, vertex.row);
+    let columns = widened(around.columns, vertex.column);
+    Box {
+        layers,
+        rows,
+        columns,
+    }
+}
+
+// The box of the unjoined pins; its spans have no inside where there are none.
+fn unjoined_box(grid: Grid, spots: &[u8; 16384], pins: &[usize; 16], count: usize) -> Box
+    requires { ⌜ (Small grid) × (Among (gridOf grid) (now spots) (now pins) count) ⌝ }
+    ensures { λ r. ⌜ Around (gridOf grid) (now (spots .entry)) (take count (now (pins .entry))) r ⌝ }
+{
+    let none = Span { low: 255, high: 0 };
+    let mut around = Box {
+        layers: none,
+        rows: none,
+        columns: none,
+    };
+    for i in 0..count {
+        let pin = pins[i];
+        if spots[pin] == UNJOINED {
+            around = widened_box(around, vertex_by(grid, pin));
+        }
+    }
+    around
+}
+
+// The lowest of the first prices.
+fn cheapest(prices: [usize; 8], count: usize) -> usize
+    requires { ⌜ count ≤ 8 ⌝ }
+    ensures { λ r. ⌜ AtMost prices count r ⌝ }
+{
+    let mut price = MOST;
+    for layer in 0..count {
+        price = lesser(price, prices[layer]);
+    }
+    price
+}
+
+// What a coordinate leaves: the steps to the span at a price, times 7, so that a search that counts each cost 8 times still pays 1 for each move.
+fn left_at(span: Span, price: usize, at: usize) -> u64
+    requires { ⌜ (span .low ≤ 255) × (price < 1024) × (at < 256) ⌝ }
+    ensures { λ r. ⌜ r ≡ leaves span price at ⌝ }
+{
+    (7 * (price * (above(span.low, at) + above(at, span.high)))) as u64
+}
+
+// The entries of all rows, columns or layers.
+fn fill_axis(bounds: &mut [u64], first: usize, count: usize, span: Span, price: usize)
+    requires { ⌜ (SmallBounds (now bounds)) × (first + count ≤ length (now bounds)) × (count ≤ 256) ⌝ }
+    requires { ⌜ (span .low ≤ 255) × (price < 1024) ⌝ }
+    ensures { λ _. ⌜ AxisFilled (now (bounds .entry)) (now (bounds .exit)) first count span price ⌝ }
+{
+    for i in 0..count {
+        bounds[first + i] = left_at(span, price, i);
+    }
+}
+
+// A bound for the unjoined ones of the first pins.
+pub fn fill_bounds(
+    bounds: &mut [u64; 528],
+    tech: Tech,
+    spots: &[u8; 16384],
+    pins: &[usize; 16],
+    count: usize,
+)
+    requires { ⌜ (TechFits tech) × (SmallBounds (now bounds)) × (Among (gridOf (tech .grid)) (now spots) (now pins) count) ⌝ }
+    ensures { λ _. ⌜ (Bounding (techBy tech) (now (spots .entry)) (now (bounds .exit))) × (SmallBounds (now (bounds .exit))) ⌝ }
+{
+    let grid = tech.grid;
+    let layers = tech.layers;
+    let wires = layers.wire;
+    let vias = layers.via;
+    let wire = cheapest(wires, grid.layers);
+    let via = cheapest(vias, grid.layers - 1);
+    let around = unjoined_box(grid, spots, pins, count);
+    let rows = around.rows;
+    let columns = around.columns;
+    let levels = around.layers;
+    fill_axis(bounds, 1, grid.rows, rows, wire);
+    fill_axis(bounds, 258, grid.columns, columns, wire);
+    fill_axis(bounds, 516, grid.layers, levels, via);
+}
