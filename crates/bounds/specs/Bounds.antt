@@ -8,20 +8,21 @@ use mathlib.Core.List.{List}
 use lib.ListN.{getD}
 use Rattle.job.specs.Grid.{Grid, Vertex, vertices}
 use Rattle.paths.specs.Systems.{to}
-use Rattle.rules.specs.Tracks.{layerOf, rowOf, columnOf}
+use Rattle.rules.specs.Tracks.{vertexBy}
 use Rattle.rules.specs.Views.{View}
 use Rattle.rules.specs.Segments.{Place}
 use Rattle.rules.specs.Prices.{Tech}
 use Rattle.rules.specs.Steps.{step, priced}
 use Rattle.rules.specs.Places.{GoodPlace}
 
--- rows begin at 1, columns at 258, layers at 516: one less or one more than a coordinate stays in the array
+-- what a row, a column and a layer leave: rows begin at 1, columns at 258, layers at 516, so that one less or one more than a coordinate stays
+-- in the array
 abbrev pub boundOf : (bounds : List ℕ) → Vertex → ℕ
 boundOf bounds x = getD bounds (1 + x .row) 0 + (getD bounds (258 + x .column) 0 + getD bounds (516 + x .layer) 0)
 
--- what is left at least from a vertex, times 7: what its row, its column and its layer leave
+-- what is left at least from the vertex with a number, times 7
 unfoldable pub boundAt : Grid → (bounds : List ℕ) → (v : ℕ) → ℕ
-boundAt g bounds v = getD bounds (1 + rowOf g v) 0 + (getD bounds (258 + columnOf g v) 0 + getD bounds (516 + layerOf g v) 0)
+boundAt g bounds v = boundOf bounds (vertexBy g v)
 
 unfoldable pub SmallBounds : (bounds : List ℕ) → Type 0
 SmallBounds bounds = (k : ℕ) → getD bounds k 0 ≤ 2 ^ 21

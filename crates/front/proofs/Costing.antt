@@ -7,7 +7,7 @@
 --     nearer-by                   a move brings a place nearer by 7 times its price at most
 --     bounds-low                  no rival costs less than is left
 use Prim.Native.Nat.{ℕ, zero, suc, _+_, _-_, _*_, _/_, _^_, _≤_, _<_}
-use mathlib.Core.Path.{_≡_, refl, sym, ap, _∙_}
+use mathlib.Core.Path.{_≡_, refl, ap}
 use mathlib.Core.List.{List}
 use mathlib.Core.Bool.{Bool, true, false, cond}
 use native.Mathlib.Omega.{arith}
@@ -25,7 +25,6 @@ use Rattle.rules.specs.Segments.{Place}
 use Rattle.rules.specs.Prices.{Tech}
 use Rattle.rules.specs.Places.{placeCode, placeAt, GoodPlace, GoodTech}
 use Rattle.rules.proofs.Places.{code-below, code-apart}
-use Rattle.heap.specs.Heaps.{keyOf}
 use Rattle.bounds.specs.Bounds.{boundAt, SmallBounds, Bounding}
 use Rattle.bounds.proofs.Coordinates.{small-sum}
 use Rattle.front.specs.Fronts.{systemBy, leftAt, costIn, costs, atLeast}

@@ -3,7 +3,7 @@
 --     seeding-begun, -next, -skip, -done      so far
 --     Flagged, flagged-begun, -on, -none      whether a block of bytes has one that is not 0
 --     Blocked, blocked-begun, -on, -long, -done      the vertices of a block
-use Prim.Native.Nat.{ℕ, suc, _+_, _-_, _*_, _%_, _≤_, _<_}
+use Prim.Native.Nat.{ℕ, suc, _+_, _-_, _%_, _≤_, _<_}
 use mathlib.Core.Path.{_≡_, refl, sym, ap, _∙_}
 use mathlib.Core.Logic.{_⊎_, inl, inr}
 use mathlib.Core.List.{List}

@@ -27,10 +27,11 @@ leadBy t view spots bounds work best e move = isLead (systemBy t view spots) (re
 abbrev pub lowestBy : (t : Tech) (view : View) (spots bounds work : List ℕ) → (best : ℕ) → Place → (e : ℕ) → ℕ
 lowestBy t view spots bounds work best p e = lowestLead (systemBy t view spots) (reachedBy t bounds work) best (markBy t work) p e
 
--- from p at a distance
+-- from p at a distance no move leads on but those whose bits the byte has
 abbrev pub OnlyMoves : (t : Tech) (view : View) (spots bounds work : List ℕ) → (best : ℕ) → Place → (e byte : ℕ) → Type 0
 OnlyMoves t view spots bounds work best p e byte = (m : ℕ) → m < 4 → (HasMove byte m → ⊥) → leadBy t view spots bounds work best e (priced (step t view p m)) ≡ false
 
+-- the place gets a mark just where a move leads on; else all is as it was
 pub record Asked (t : Tech) (view : View) (spots bounds : List ℕ) (best item : ℕ) (p : Place) (near work near′ work′ : List ℕ) (marked : Bool) : Type 0 where
   pub left : marked ≡ false → (near′ ≡ near) × (work′ ≡ work)
   pub none : marked ≡ false → (e : ℕ) → costs t bounds work item ≡ suc e → 4 ≤ lowestBy t view spots bounds work best p e

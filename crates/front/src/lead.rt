@@ -28,7 +28,7 @@ use tree::UNJOINED;
 pub const MARKED: u64 = 1048574;
 
 // Whether a move leads so, from a place at a distance.
-pub fn leads(
+fn leads(
     tech: Tech,
     seen: &[u8; 16384],
     spots: &[u8; 16384],

@@ -1,5 +1,5 @@
-// The search from the tree: places are settled in the order of their cost until no open one is below the cheapest goal found; then the places of
-// cheapest joins are marked.
+// The search from the tree: places are settled in the order of their cost with what is left at least, until no open one is below the cheapest
+// goal found; then the places of cheapest joins are marked.
 pub mod clear;
 pub mod lead;
 pub mod mark;

@@ -1,5 +1,5 @@
-// The places of cheapest joins get marks: from the last settled place to the first, one gets a mark where a move leads on. Each price is at least
-// 1, so that a place leads on only to places settled after it, and one pass suffices.
+// The places of cheapest joins get marks: from the last settled place to the first, one gets a mark where a move leads on. Each move
+// raises the key, so that a place leads on only to places settled after it, and one pass suffices.
 ghost use mathlib.Core.Path.{_≡_};
 ghost use Prim.Native.Nat.{ℕ, suc, _+_, _-_, _*_, _/_, _%_, _≤_, _<_, _^_};
 ghost use lib.ListN.{length, getD, set};

@@ -1,7 +1,7 @@
 -- No join makes an unjoined pin.
 --     record-fewer      a vertex that is an unjoined pin after a record was one before
 use Prim.Native.Nat.{ℕ, zero, suc}
-use mathlib.Core.Path.{_≡_, refl}
+use mathlib.Core.Path.{_≡_}
 use mathlib.Core.List.{List, [], _∷_}
 use native.Mathlib.Omega.{arith}
 use lib.ListN.{getD, set}

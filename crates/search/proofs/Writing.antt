@@ -42,7 +42,6 @@ use Rattle.walker.specs.declared.Walk.{Walk}
 use Rattle.walker.proofs.Landing.{MoveFits, made-fits, made-entered, MovesMade, made-none, made-one, made-all}
 use Rattle.walker.proofs.Entering.{enter-step}
 use Rattle.walker.proofs.Nets.{empty}
-use Rattle.heap.specs.Heaps.{keyOf}
 use Rattle.front.specs.Fronts.{systemBy, costs, reachedBy, markBy}
 use Rattle.front.specs.Leads.{lowestBy}
 use Rattle.front.specs.Charts.{Charted, lowestMarked}

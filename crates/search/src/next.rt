@@ -32,7 +32,6 @@ use front::settle::Found;
 use front::settle::NONE;
 use front::settle::settle;
 use rules::price::Tech;
-use walker::Walk;
 
 // The record of what a search found.
 fn join_found(

@@ -1,7 +1,6 @@
 -- `front::seed::some_in` meets its contract.
 use Prim.Native.Nat.{_-_}
 use borrow.Author.Needs.{needs}
-use mathlib.Core.Path.{refl}
 use native.Mathlib.Omega.{arith}
 use Rattle.front.proofs.Seeding.{Flagged, flagged-begun, flagged-on, flagged-none}
 use Rattle.front.proofs.seed.some_in.Statement.{statement}
