@@ -1,23 +1,31 @@
 -- An axis of the bound, and the cheapest price.
---     leaves-fits, leaves-small                     what a coordinate leaves fits, and is small
---     leaves-none, leaves-next                      nothing inside the span, and at most one price more than next to it
---     AxisSoFar, axis-none, axis-turn, axis-done    the entries of an axis, one by one
---     most-none, most-turn, most-done               the lowest of some prices, one by one
-use Prim.Native.Nat.{ℕ, suc, _+_, _-_, _*_, _^_, _≤_, _<_}
-use mathlib.Core.Path.{_≡_, refl}
+--     Within                                      a coordinate between the ends of a span
+--     leaves-fits, leaves-small                   what a coordinate leaves fits, and is small
+--     leaves-none, leaves-next                    nothing inside the span, and at most one price more than next to it
+--     axis-size, axis-turn                        an axis changes no length, and one more entry of it
+--     axis-told, axis-small                       all of its entries, and all small
+--     cheapest-turn, cheapest-fits, cheapest-of   one more price; the lowest is small, and none is lower
+use Prim.Native.Nat.{ℕ, zero, suc, _+_, _-_, _*_, _^_, _≤_, _<_, min}
+use mathlib.Core.Path.{_≡_, refl, _∙_}
 use mathlib.Core.List.{List}
 use mathlib.Core.Bool.{Bool, true, false, cond}
 use native.Mathlib.Nat.{mul-zero, mul-suc}
 use native.Mathlib.Omega.{arith}
-use lib.ListN.{length, getD, set}
+use lib.ListN.{length, getD, set, length-set}
 use lib.Dec.{eqb}
 use borrow.Author.Count.{below-more}
 use Rattle.job.specs.declared.groups.Span.{Span}
 use Rattle.job.proofs.Sizes.{product-within}
+use Rattle.rules.proofs.Fitting.{one-more}
 use Rattle.tree.proofs.Marked.{set-at}
 use Rattle.tables.proofs.Tables.{Filled, filled-none, filled-turn}
 use Rattle.bounds.specs.Bounds.{SmallBounds}
-use Rattle.bounds.specs.Fills.{Within, AtMost, leaves, AxisFilled}
+use Rattle.bounds.specs.Fills.{cheapestOf, leaves, axisFilled}
+
+-- both ends are inside
+pub record Within (span : Span) (at : ℕ) : Type 0 where
+  pub low : span .low ≤ at
+  pub high : at ≤ span .high
 
 -- ---- what a coordinate leaves
 
@@ -57,47 +65,51 @@ small-set bounds at value small room fits k = rw (set-at bounds at k value room)
     by true = fits
     by false = small k
 
-module _ (before : List ℕ) (first : ℕ) (span : Span) (price : ℕ) where
-  -- i entries are filled, and all are small
-  pub record AxisSoFar (bounds : List ℕ) (i : ℕ) : Type 0 where
-    pub entries : Filled (leaves span price) first before bounds i
-    pub small : SmallBounds bounds
+module _ (span : Span) (price first : ℕ) (before : List ℕ) where
+  pub axis-size : (n : ℕ) → length (axisFilled span price first n before) ≡ length before
+  unfolding axisFilled
+  axis-size zero = refl
+  axis-size (suc n) = length-set (axisFilled span price first n before) (first + n) (leaves span price n) ∙ axis-size n
 
-  pub axis-none : SmallBounds before → AxisSoFar before 0
-  axis-none small = record { entries = filled-none _ _ _; small = small }
+  -- the next entry
+  pub axis-turn : (n : ℕ) {bounds : List ℕ} {value : ℕ} → bounds ≡ axisFilled span price first n before → value ≡ leaves span price n
+      → set bounds (first + n) value ≡ axisFilled span price first (n + 1) before
+  unfolding axisFilled
+  axis-turn n so-far is = rw (one-more n, so-far, is) refl
 
-  -- the next one
-  pub axis-turn : {bounds : List ℕ} {i value : ℕ} → AxisSoFar bounds i → first + i < length before → value ≡ leaves span price i → value ≤ 2 ^ 21
-      → AxisSoFar (set bounds (first + i) value) (i + 1)
-  axis-turn {bounds} so-far room is fits =
-      record {
-        entries = filled-turn _ _ _ (so-far .entries) refl room is;
-        small = small-set bounds _ _ (so-far .small) (omega (arith, room, so-far .entries .size)) fits;
-      }
+  -- all of them, and those before are as they were
+  pub axis-told : (n : ℕ) → first + n ≤ length before → Filled (leaves span price) first before (axisFilled span price first n before) n
+  unfolding axisFilled
+  axis-told zero room = filled-none _ _ _
+  axis-told (suc n) room =
+      rw (one-more n) at (filled-turn _ _ _ (axis-told n (omega (arith, room))) refl (omega (arith, room)) refl)
 
-  -- all of them
-  pub axis-done : {bounds : List ℕ} {i : ℕ} (count : ℕ) → AxisSoFar bounds i → count ≤ i → AxisFilled before bounds first count span price
-  axis-done count so-far done =
-      record {
-        filled = λ k h. so-far .entries .done k (omega (arith, done, h));
-        kept = so-far .entries .kept;
-        small = so-far .small;
-      }
+  -- all are small
+  pub axis-small : (n : ℕ) → first + n ≤ length before → n ≤ 256 → span .low ≤ 255 → price < 1024 → SmallBounds before
+      → SmallBounds (axisFilled span price first n before)
+  unfolding axisFilled
+  axis-small zero room few near cheap small = small
+  axis-small (suc n) room few near cheap small =
+      small-set _ _ _ (axis-small n (omega (arith, room)) (omega (arith, few)) near cheap small)
+      (omega (arith, room, axis-size n)) (leaves-small span price n near cheap (omega (arith, few)))
 
 -- ---- the cheapest price
 
 module _ (prices : List ℕ) where
-  pub most-none : AtMost prices 0 1023
-  most-none = record { fits = omega arith; lowest = λ k h. absurd (omega (arith, h)) }
-
   -- the next one
-  pub most-turn : {n price next : ℕ} → AtMost prices n price → next ≤ price → next ≤ getD prices n 0 → AtMost prices (n + 1) next
-  most-turn {n} {price} {next} so-far lower here =
-      record {
-        fits = omega (arith, so-far .fits);
-        lowest = below-more _ _ (λ k h. omega (arith, so-far .lowest k h)) here;
-      }
+  pub cheapest-turn : (n : ℕ) {price next : ℕ} → price ≡ cheapestOf prices n → next ≡ min price (getD prices n 0) → next ≡ cheapestOf prices (n + 1)
+  unfolding cheapestOf
+  cheapest-turn n so-far is = rw (one-more n, is, so-far) refl
 
-  -- all of them
-  pub most-done : {n price : ℕ} (count : ℕ) → AtMost prices n price → count ≤ n → AtMost prices count price
-  most-done count so-far done = record { fits = so-far .fits; lowest = λ k h. so-far .lowest k (omega (arith, done, h)) }
+  pub cheapest-fits : (n : ℕ) → cheapestOf prices n < 1024
+  unfolding cheapestOf
+  cheapest-fits zero = omega arith
+  cheapest-fits (suc n) = omega (arith, cheapest-fits n)
+
+  -- none is lower
+  pub cheapest-of : (n k : ℕ) → k < n → cheapestOf prices n ≤ getD prices k 0
+  unfolding cheapestOf
+  cheapest-of zero k h = absurd (omega (arith, h))
+  cheapest-of (suc n) k h =
+      below-more (λ k. min (cheapestOf prices n) (getD prices n 0) ≤ getD prices k 0) n (λ j before. omega (arith, cheapest-of n j before)) (omega arith) k
+      (omega (arith, h))

@@ -1,11 +1,13 @@
 -- The table of the box of the unjoined pins is a bound on what is left.
---     bounding     it is, once all three axes are filled
+--     filled-small     all of its entries are small
+--     bounding         it is such a bound
+--     bounds-made      the same of what the code makes
 use Prim.Native.Nat.{ℕ, _+_, _-_, _*_, _%_, _≤_, _<_}
 use mathlib.Core.Path.{_≡_, refl, ap, _∙_}
 use mathlib.Core.List.{List}
 use mathlib.Core.Bool.{Bool, true, false, cond}
 use native.Mathlib.Omega.{arith}
-use lib.ListN.{getD, take}
+use lib.ListN.{length, getD}
 use lib.Dec.{eqb}
 use borrow.Author.Tests.{lt-ltb, le-ltb, eqb-true, eqb-false}
 use Rattle.job.specs.Grid.{Grid, vertices}
@@ -27,10 +29,12 @@ use Rattle.rules.proofs.Neighbours.{entered-below}
 use Rattle.rules.proofs.Segments.{move-led}
 use Rattle.rules.proofs.Moves.{step-parts}
 use Rattle.rules.proofs.Held.{line-held}
-use Rattle.bounds.specs.Bounds.{boundAt, Bounding}
-use Rattle.bounds.specs.Fills.{Among, Around, AtMost, leaves, AxisFilled}
+use Rattle.tables.proofs.Tables.{Filled}
+use Rattle.bounds.specs.Bounds.{boundAt, SmallBounds, Bounding}
+use Rattle.bounds.specs.Fills.{Among, unjoinedBox, cheapestOf, leaves, axisFilled, filled}
 use Rattle.bounds.proofs.Coordinates.{Changed, column, row, layer, changed, small-sum}
-use Rattle.bounds.proofs.Axes.{leaves-none, leaves-next}
+use Rattle.bounds.proofs.Axes.{leaves-none, leaves-next, axis-told, axis-small, cheapest-fits, cheapest-of}
+use Rattle.bounds.proofs.Boxes.{box-low, box-holds}
 
 -- ---- what a move costs at least
 
@@ -46,36 +50,71 @@ entering-least t view v w m e = plus-least (base t v w m) (sumCost (guideAt t vi
 
 module _ {t : TechStruct} (tech : TechFits t) {v w : ℕ} (on : v < vertices (gridOf (t .grid))) (into : w < vertices (gridOf (t .grid))) where
   -- a step costs at least the cheapest wire
-  wire-least : {wire : ℕ} (m : ℕ) → AtMost (t .layers .wire) (t .grid .layers) wire → m < 2 → wire ≤ base (techBy t) v w m
+  wire-least : (m : ℕ) → m < 2 → cheapestOf (t .layers .wire) (t .grid .layers) ≤ base (techBy t) v w m
   unfolding base lineAt
-  wire-least m wires few =
+  wire-least m few =
       let held = ap (λ (l : LayerStruct). l .wire) (line-held tech into) in
-      rw (lt-ltb m 2 few) (omega (arith, held, wires .lowest _ (vertex-below (gridOf (t .grid)) into .layer)))
+      rw (lt-ltb m 2 few) (omega (arith, held, cheapest-of (t .layers .wire) _ _ (vertex-below (gridOf (t .grid)) into .layer)))
 
   -- a via costs at least the cheapest via: the lower of its layers is not the top one
-  via-least : {via : ℕ} (m : ℕ) → AtMost (t .layers .via) (t .grid .layers - 1) via → 2 ≤ m → m < 4
-      → layerOf (gridOf (t .grid)) w + 1 ≡ layerOf (gridOf (t .grid)) v + 2 * (m % 2) → via ≤ base (techBy t) v w m
+  via-least : (m : ℕ) → 2 ≤ m → m < 4 → layerOf (gridOf (t .grid)) w + 1 ≡ layerOf (gridOf (t .grid)) v + 2 * (m % 2)
+      → cheapestOf (t .layers .via) (t .grid .layers - 1) ≤ base (techBy t) v w m
   unfolding base lineAt
-  via-least {via} m vias some few next = rw (le-ltb m 2 some) (by (eqb m 2) refl)
+  via-least m some few next = rw (le-ltb m 2 some) (by (eqb m 2) refl)
     where
-      by : (b : Bool) → eqb m 2 ≡ b → via ≤ cond b (lineOf (techBy t) w .via) (lineOf (techBy t) v .via)
+      by : (b : Bool) → eqb m 2 ≡ b → cheapestOf (t .layers .via) (t .grid .layers - 1) ≤ cond b (lineOf (techBy t) w .via) (lineOf (techBy t) v .via)
       by true e =
           let down = eqb-true m 2 e in
           let held = ap (λ (l : LayerStruct). l .via) (line-held tech into) in
-          omega (arith, held, vias .lowest (layerOf (gridOf (t .grid)) w) (omega (arith, down, next, vertex-below (gridOf (t .grid)) on .layer)))
+          let lowest = cheapest-of (t .layers .via) (t .grid .layers - 1) (layerOf (gridOf (t .grid)) w) in
+          omega (arith, held, lowest (omega (arith, down, next, vertex-below (gridOf (t .grid)) on .layer)))
       by false e =
           let up : m ≡ 3 = omega (arith, eqb-false m 2 e, some, few) in
           let held = ap (λ (l : LayerStruct). l .via) (line-held tech on) in
-          omega (arith, held, vias .lowest (layerOf (gridOf (t .grid)) v) (omega (arith, up, next, vertex-below (gridOf (t .grid)) into .layer)))
+          let lowest = cheapest-of (t .layers .via) (t .grid .layers - 1) (layerOf (gridOf (t .grid)) v) in
+          omega (arith, held, lowest (omega (arith, up, next, vertex-below (gridOf (t .grid)) into .layer)))
 
 -- ---- the table
 
-module _ {t : TechStruct} (tech : TechFits t) (box : Box) (wire via : ℕ) (found rows columns bounds : List ℕ)
-    (row-axis : AxisFilled found rows 1 (t .grid .rows) (box .rows) wire)
-    (column-axis : AxisFilled rows columns 258 (t .grid .columns) (box .columns) wire)
-    (layer-axis : AxisFilled columns bounds 516 (t .grid .layers) (box .layers) via) where
+module _ {t : TechStruct} (tech : TechFits t) (spots pins : List ℕ) (count : ℕ) (found : List ℕ) (room : length found ≡ 528) where
   abbrev g : Grid
   g = gridOf (t .grid)
+
+  abbrev box : Box
+  box = unjoinedBox g spots pins count
+
+  abbrev wire : ℕ
+  wire = cheapestOf (t .layers .wire) (t .grid .layers)
+
+  abbrev via : ℕ
+  via = cheapestOf (t .layers .via) (t .grid .layers - 1)
+
+  abbrev rows : List ℕ
+  rows = axisFilled (box .rows) wire 1 (t .grid .rows) found
+
+  abbrev columns : List ℕ
+  columns = axisFilled (box .columns) wire 258 (t .grid .columns) rows
+
+  abbrev bounds : List ℕ
+  bounds = axisFilled (box .layers) via 516 (t .grid .layers) columns
+
+  row-room : 1 + t .grid .rows ≤ length found
+  row-room = omega (arith, room, tech .sized .small .rows)
+
+  row-axis : Filled (leaves (box .rows) wire) 1 found rows (t .grid .rows)
+  row-axis = axis-told (box .rows) wire 1 found (t .grid .rows) row-room
+
+  column-room : 258 + t .grid .columns ≤ length rows
+  column-room = omega (arith, room, row-axis .size, tech .sized .small .columns)
+
+  column-axis : Filled (leaves (box .columns) wire) 258 rows columns (t .grid .columns)
+  column-axis = axis-told (box .columns) wire 258 rows (t .grid .columns) column-room
+
+  layer-room : 516 + t .grid .layers ≤ length columns
+  layer-room = omega (arith, room, row-axis .size, column-axis .size, tech .sized .small .layers)
+
+  layer-axis : Filled (leaves (box .layers) via) 516 columns bounds (t .grid .layers)
+  layer-axis = axis-told (box .layers) via 516 columns (t .grid .layers) layer-room
 
   -- what a vertex leaves: what its coordinates leave
   bound-told : (v : ℕ) → v < vertices g → boundAt g bounds v
@@ -84,9 +123,9 @@ module _ {t : TechStruct} (tech : TechFits t) (box : Box) (wire via : ℕ) (foun
   bound-told v on =
       let b = vertex-below g on in
       let r = layer-axis .kept (1 + rowOf g v) (omega (arith, b .row, tech .sized .small .rows))
-      ∙ column-axis .kept (1 + rowOf g v) (omega (arith, b .row, tech .sized .small .rows)) ∙ row-axis .filled (rowOf g v) (b .row) in
-      let c = layer-axis .kept (258 + columnOf g v) (omega (arith, b .column, tech .sized .small .columns)) ∙ column-axis .filled (columnOf g v) (b .column) in
-      rw (r, c, layer-axis .filled (layerOf g v) (b .layer)) refl
+      ∙ column-axis .kept (1 + rowOf g v) (omega (arith, b .row, tech .sized .small .rows)) ∙ row-axis .done (rowOf g v) (b .row) in
+      let c = layer-axis .kept (258 + columnOf g v) (omega (arith, b .column, tech .sized .small .columns)) ∙ column-axis .done (columnOf g v) (b .column) in
+      rw (r, c, layer-axis .done (layerOf g v) (b .layer)) refl
 
   -- no move lowers it by more than 7 times its price
   told-nearer : {v w m c : ℕ} → v < vertices g → w < vertices g → Changed g m v w → (m < 2 → wire ≤ c)
@@ -107,14 +146,24 @@ module _ {t : TechStruct} (tech : TechFits t) (box : Box) (wire via : ℕ) (foun
       let less = leaves-next (box .layers) via (layerOf g v) (layerOf g w) (omega arith) (omega arith) in
       omega (arith, bound-told v on, bound-told w into, r, k, less, vias some few next)
 
-  pub bounding : {spots pins : List ℕ} {count : ℕ} → Among g spots pins count → Around g spots (take count pins) box
-      → AtMost (t .layers .wire) (t .grid .layers) wire → AtMost (t .layers .via) (t .grid .layers - 1) via → Bounding (techBy t) spots bounds
-  unfolding techBy
-  bounding {spots} among around wires vias = record { none = none; nearer = nearer; small = small-sum g bounds (layer-axis .small) }
+  -- it is small, as the one before was
+  pub filled-small : SmallBounds found → SmallBounds (filled t spots pins count found)
+  unfolding filled
+  filled-small small =
+      let low = box-low g spots pins count in
+      let cheap = cheapest-fits (t .layers .wire) (t .grid .layers) in
+      let r = axis-small (box .rows) wire 1 found (t .grid .rows) row-room (tech .sized .small .rows) (low .rows) cheap small in
+      let c = axis-small (box .columns) wire 258 rows (t .grid .columns) column-room (tech .sized .small .columns) (low .columns) cheap r in
+      axis-small (box .layers) via 516 columns (t .grid .layers) layer-room (omega (arith, tech .sized .small .layers)) (low .layers)
+      (cheapest-fits (t .layers .via) (t .grid .layers - 1)) c
+
+  pub bounding : Among g spots pins count → SmallBounds found → Bounding (techBy t) spots (filled t spots pins count found)
+  unfolding techBy filled
+  bounding among small = record { none = none; nearer = nearer; small = small-sum g bounds (filled-small small) }
     where
       none : (v : ℕ) → v < vertices g → getD spots v 0 ≡ 2 → boundAt g bounds v ≡ 0
       none v on unjoined =
-          let in-box = around .takes v (among .known v on unjoined) unjoined in
+          let in-box = box-holds g spots pins count v (among .there .there) (among .known v on unjoined) unjoined in
           omega (arith, bound-told v on, leaves-none _ wire _ (in-box .row), leaves-none _ wire _ (in-box .column), leaves-none _ via _ (in-box .layer))
 
       nearer : (view : View) {p q : Place} (m : ℕ) {c : ℕ} → GoodPlace (techBy t) p → priced (step (techBy t) view p m) ≡ to c q
@@ -126,5 +175,15 @@ module _ {t : TechStruct} (tech : TechFits t) (box : Box) (wire via : ℕ) (foun
           let into = entered-below g m (good .vertex) (went .enters) in
           rw (led .vertex)
           (told-nearer (good .vertex) into (changed g m (good .vertex) (went .enters))
-          (λ few. omega (arith, wire-least tech (good .vertex) into m wires few, least, led .cost))
-          (λ some few next. omega (arith, via-least tech (good .vertex) into m vias some few next, least, led .cost)))
+          (λ few. omega (arith, wire-least tech (good .vertex) into m few, least, led .cost))
+          (λ some few next. omega (arith, via-least tech (good .vertex) into m some few next, least, led .cost)))
+
+  -- what the code leaves, step by step, is that table
+  pub bounds-made : Among g spots pins count → SmallBounds found → {around : Box} {wires vias : ℕ} {first second made : List ℕ}
+      → around ≡ box → wires ≡ wire → vias ≡ via → first ≡ axisFilled (around .rows) wires 1 (t .grid .rows) found
+      → second ≡ axisFilled (around .columns) wires 258 (t .grid .columns) first → made ≡ axisFilled (around .layers) vias 516 (t .grid .layers) second
+      → Bounding (techBy t) spots made × SmallBounds made × (made ≡ filled t spots pins count found)
+  unfolding filled
+  bounds-made among small {made = made} is-box is-wire is-via one two three =
+      let is : made ≡ bounds = rw (three, two, one, is-box, is-wire, is-via) refl in
+      (rw is (bounding among small), rw is (filled-small small), is)

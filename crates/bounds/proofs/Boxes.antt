@@ -1,16 +1,18 @@
 -- The box of the unjoined pins, pin by pin.
---     pin-on-grid                     a pin is a vertex of the grid
---     around-none                     around no pins
---     around-widened, around-kept     with an unjoined pin, and with another
---     around-all                      around all of them
-use Prim.Native.Nat.{ℕ, _+_, _<_}
-use mathlib.Core.Path.{_≡_, sym, _∙_, subst}
+--     pin-on-grid            a pin is a vertex of the grid
+--     InBox, Low             a vertex in a box; a box whose low ends are at most 255
+--     box-turn, box-kept     one more pin: an unjoined one, and another
+--     box-low, box-holds     the box's low ends are at most 255, and it holds every unjoined one of the pins
+use Prim.Native.Nat.{ℕ, zero, suc, _+_, _≤_, _<_}
+use mathlib.Core.Path.{_≡_, refl}
 use mathlib.Core.Logic.{⊎-elim}
 use mathlib.Core.List.{List, [], _∷_}
-use mathlib.Core.Bool.{true}
+use mathlib.Core.Bool.{Bool, true, false, cond}
 use native.Mathlib.Omega.{arith}
 use lib.ListN.{length, getD, take}
 use lib.Seq.{take-suc, getD-take}
+use lib.Dec.{eqb}
+use borrow.Author.Tests.{eq-eqb, ne-eqb, eqb-false}
 use Rattle.job.specs.Grid.{Grid, Vertex, vertices}
 use Rattle.job.specs.Structs.{vertexOf, vertexStruct}
 use Rattle.job.specs.declared.grid.Vertex.{Vertex as VertexStruct}
@@ -22,70 +24,103 @@ use Rattle.rules.proofs.Fitting.{one-more}
 use Rattle.rules.proofs.Members.{member-none, member-here, member-append}
 use Rattle.rules.proofs.Standing.{all-at}
 use Rattle.tree.proofs.Turns.{pin-count}
-use Rattle.bounds.specs.Fills.{Among, Within, InBox, Widened, WidenedBox, Around}
+use Rattle.bounds.specs.Fills.{Among, spanWith, boxWith, unjoinedBox}
+use Rattle.bounds.proofs.Axes.{Within}
 
 -- a pin is a vertex of the grid
 pub pin-on-grid : (g : Grid) (spots pins : List ℕ) {count i : ℕ} → Among g spots pins count → i < count → getD pins i 0 < vertices g
 pin-on-grid g spots pins {count} {i} among on =
     rw (getD-take count pins i 0 on) at (all-at (λ v. v < vertices g) (take count pins) i 0 (among .onGrid) (rw (pin-count (among .there)) on))
 
--- what a span holds a wider one holds
-still-within : {before span : Span} {x at : ℕ} → Widened before at span → Within before x → Within span x
-still-within wider within = record { low = omega (arith, wider .low, within .low); high = omega (arith, wider .high, within .high) }
+-- ---- one more vertex
 
--- and so a box
-still-in : {before box : Box} {y x : Vertex} → WidenedBox before y box → InBox before x → InBox box x
-still-in wider in-box =
+-- on each axis
+pub record InBox (box : Box) (x : Vertex) : Type 0 where
+  pub layer : Within (box .layers) (x .layer)
+  pub row : Within (box .rows) (x .row)
+  pub column : Within (box .columns) (x .column)
+
+-- a span holds what it held
+still-within : (span : Span) (at : ℕ) {x : ℕ} → Within span x → Within (spanWith span at) x
+still-within span at within = record { low = omega (arith, within .low); high = omega (arith, within .high) }
+
+-- and the new coordinate
+now-within : (span : Span) (at : ℕ) → Within (spanWith span at) at
+now-within span at = record { low = omega arith; high = omega arith }
+
+-- a box holds what it held
+still-in : (box : Box) (y : Vertex) {x : Vertex} → InBox box x → InBox (boxWith box y) x
+still-in box y in-box =
     record {
-      layer = still-within (wider .layers) (in-box .layer);
-      row = still-within (wider .rows) (in-box .row);
-      column = still-within (wider .columns) (in-box .column);
+      layer = still-within _ (y .layer) (in-box .layer);
+      row = still-within _ (y .row) (in-box .row);
+      column = still-within _ (y .column) (in-box .column);
     }
 
--- it holds the vertex that widened it
-now-in : {before box : Box} {y : Vertex} → WidenedBox before y box → InBox box y
-now-in wider = record { layer = wider .layers .takes; row = wider .rows .takes; column = wider .columns .takes }
-
--- around no pins
-pub around-none : (g : Grid) (spots : List ℕ) {box : Box} → box .layers .low ≡ 255 → box .rows .low ≡ 255 → box .columns .low ≡ 255
-    → Around g spots [] box
-around-none g spots layers rows columns =
+-- and the new vertex
+now-in : (box : Box) (y : Vertex) → InBox (boxWith box y) y
+now-in box y =
     record {
-      takes = λ v in-none unjoined. absurd (member-none v in-none);
-      layers = omega arith;
-      rows = omega arith;
-      columns = omega arith;
+      layer = now-within (box .layers) (y .layer);
+      row = now-within (box .rows) (y .row);
+      column = now-within (box .columns) (y .column);
     }
+
+-- no coordinate is more than 255 steps below the box
+pub record Low (box : Box) : Type 0 where
+  pub layers : box .layers .low ≤ 255
+  pub rows : box .rows .low ≤ 255
+  pub columns : box .columns .low ≤ 255
+
+-- ---- the pins
 
 module _ (g : Grid) (spots pins : List ℕ) where
-  module _ {i pin : ℕ} (there : i < length pins) (is : pin ≡ getD pins i 0) {before : Box} (so-far : Around g spots (take i pins) before) where
-    -- one more pin: it, or one of those before
-    one-of : {v : ℕ} {P : Type 0} → member v (take (i + 1) pins) ≡ true → (member v (take i pins) ≡ true → P) → (v ≡ pin → P) → P
-    one-of {v} in-these earlier here =
-        ⊎-elim earlier (λ one. here (member-here v (getD pins i 0) one ∙ sym is))
-        (member-append v (take i pins) (getD pins i 0 ∷ []) (rw (one-more i, take-suc pins i 0 there) at in-these))
-
+  module _ (n : ℕ) {pin : ℕ} {before : Box} (is : pin ≡ getD pins n 0) (so-far : before ≡ unjoinedBox g spots pins n) where
     -- an unjoined one
-    pub around-widened : {box : Box} {vertex : VertexStruct} → vertex ≡ vertexStruct (vertexBy g pin) → WidenedBox before (vertexOf vertex) box
-        → Around g spots (take (i + 1) pins) box
-    around-widened {box} {vertex} told wider =
-        record {
-          takes = λ v in-these unjoined. one-of in-these (λ earlier. still-in wider (so-far .takes v earlier unjoined)) (λ here. rw here (subst (λ (x : VertexStruct). InBox box (vertexOf x)) told (now-in wider)));
-          layers = omega (arith, wider .layers .low, so-far .layers);
-          rows = omega (arith, wider .rows .low, so-far .rows);
-          columns = omega (arith, wider .columns .low, so-far .columns);
-        }
+    pub box-turn : {box : Box} {vertex : VertexStruct} → getD spots pin 0 ≡ 2 → vertex ≡ vertexStruct (vertexBy g pin)
+        → box ≡ boxWith before (vertexOf vertex) → box ≡ unjoinedBox g spots pins (n + 1)
+    unfolding unjoinedBox
+    box-turn unjoined told wider =
+        rw (one-more n, wider, told, ← is, eq-eqb (getD spots pin 0) 2 unjoined, so-far) refl
 
     -- another
-    pub around-kept : (getD spots pin 0 ≡ 2 → ⊥) → Around g spots (take (i + 1) pins) before
-    around-kept joined =
-        record {
-          takes = λ v in-these unjoined. one-of in-these (λ earlier. so-far .takes v earlier unjoined) (λ here. absurd (joined (rw here at unjoined)));
-          layers = so-far .layers;
-          rows = so-far .rows;
-          columns = so-far .columns;
-        }
+    pub box-kept : (getD spots pin 0 ≡ 2 → ⊥) → before ≡ unjoinedBox g spots pins (n + 1)
+    unfolding unjoinedBox
+    box-kept joined = rw (one-more n, ← is, ne-eqb (getD spots pin 0) 2 joined, so-far) refl
 
-  -- all of them
-  pub around-all : {i count : ℕ} {box : Box} → Around g spots (take i pins) box → i ≡ count → Around g spots (take count pins) box
-  around-all {box = box} so-far done = subst (λ (n : ℕ). Around g spots (take n pins) box) done so-far
+  pub box-low : (n : ℕ) → Low (unjoinedBox g spots pins n)
+  unfolding unjoinedBox
+  box-low zero = record { layers = omega arith; rows = omega arith; columns = omega arith }
+  box-low (suc n) = by (box-low n) (eqb (getD spots (getD pins n 0) 0) 2)
+    where
+      by : Low (unjoinedBox g spots pins n) → (b : Bool)
+          → Low (cond b (boxWith (unjoinedBox g spots pins n) (vertexBy g (getD pins n 0))) (unjoinedBox g spots pins n))
+      by before true =
+          record {
+            layers = omega (arith, before .layers);
+            rows = omega (arith, before .rows);
+            columns = omega (arith, before .columns);
+          }
+      by before false = before
+
+  -- it holds the unjoined ones
+  pub box-holds : (n v : ℕ) → n ≤ length pins → member v (take n pins) ≡ true → getD spots v 0 ≡ 2
+      → InBox (unjoinedBox g spots pins n) (vertexBy g v)
+  unfolding unjoinedBox
+  box-holds zero v there in-none unjoined = absurd (member-none v in-none)
+  box-holds (suc n) v there in-these unjoined =
+      by (λ earlier. box-holds n v (omega (arith, there)) earlier unjoined) (eqb (getD spots pin 0) 2) refl
+    where
+      pin : ℕ
+      pin = getD pins n 0
+
+      -- it is the last, or one of those before
+      one-of : {P : Type 0} → (member v (take n pins) ≡ true → P) → (v ≡ pin → P) → P
+      one-of earlier here =
+          ⊎-elim earlier (λ one. here (member-here v pin one)) (member-append v (take n pins) (pin ∷ []) (rw (take-suc pins n 0 there) at in-these))
+
+      by : (member v (take n pins) ≡ true → InBox (unjoinedBox g spots pins n) (vertexBy g v)) → (b : Bool) → eqb (getD spots pin 0) 2 ≡ b
+          → InBox (cond b (boxWith (unjoinedBox g spots pins n) (vertexBy g pin)) (unjoinedBox g spots pins n)) (vertexBy g v)
+      by so-far true e =
+          one-of (λ earlier. still-in _ (vertexBy g pin) (so-far earlier)) (λ here. rw here (now-in (unjoinedBox g spots pins n) (vertexBy g pin)))
+      by so-far false e = one-of so-far (λ here. absurd (eqb-false (getD spots pin 0) 2 e (rw here at unjoined)))

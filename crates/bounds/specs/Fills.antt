@@ -1,23 +1,24 @@
--- How the bound is made: the box of the unjoined pins, the cheapest prices, and an axis filled from both.
---     Among                  every unjoined pin is one of the net's pins
---     Within, InBox          a coordinate between the ends of a span, a vertex in a box
---     Widened, WidenedBox    a span that takes in one more coordinate, a box that takes in one more vertex
---     Around                 a box around the unjoined pins
---     AtMost                 a price that none of some undercuts
---     leaves, AxisFilled     what a coordinate leaves, and the entries of an axis
-use Prim.Native.Nat.{ℕ, _+_, _-_, _*_, _≤_, _<_}
+-- How the bound is made: the box of the unjoined pins, the cheapest prices, and a table filled from both.
+--     Among                          every unjoined pin is one of the net's pins
+--     spanWith, boxWith              a span that takes in one more coordinate, a box that takes in one more vertex
+--     nowhere, unjoinedBox           the empty span, and the box of the unjoined ones of the first pins
+--     cheapestOf                     the lowest of the first prices
+--     leaves, axisFilled, filled     what a coordinate leaves, a table with the entries of an axis, and with those of all three
+use Prim.Native.Nat.{ℕ, zero, suc, _+_, _-_, _*_, _<_, min, max}
 use mathlib.Core.Path.{_≡_}
 use mathlib.Core.List.{List}
-use mathlib.Core.Bool.{true}
-use lib.ListN.{getD, take}
+use mathlib.Core.Bool.{true, cond}
+use lib.ListN.{getD, set, take}
+use lib.Dec.{eqb}
 use Rattle.job.specs.Lists.{All}
 use Rattle.job.specs.Grid.{Grid, Vertex, vertices}
+use Rattle.job.specs.Structs.{gridOf}
 use Rattle.job.specs.declared.groups.Span.{Span}
 use Rattle.job.specs.declared.groups.Box.{Box}
 use Rattle.rules.specs.Tracks.{vertexBy}
 use Rattle.rules.specs.Views.{member}
+use Rattle.rules.specs.declared.price.Tech.{Tech}
 use Rattle.tree.specs.Spots.{Pins}
-use Rattle.bounds.specs.Bounds.{SmallBounds}
 
 -- the first so many pins are vertices of the grid, and every unjoined pin is one of them
 pub record Among (g : Grid) (spots pins : List ℕ) (count : ℕ) : Type 0 where
@@ -27,50 +28,50 @@ pub record Among (g : Grid) (spots pins : List ℕ) (count : ℕ) : Type 0 where
 
 -- ---- the box
 
--- both ends are inside
-pub record Within (span : Span) (at : ℕ) : Type 0 where
-  pub low : span .low ≤ at
-  pub high : at ≤ span .high
-
-pub record InBox (box : Box) (x : Vertex) : Type 0 where
-  pub layer : Within (box .layers) (x .layer)
-  pub row : Within (box .rows) (x .row)
-  pub column : Within (box .columns) (x .column)
-
--- a span that takes in a coordinate, and whatever the one before did
-pub record Widened (before : Span) (at : ℕ) (span : Span) : Type 0 where
-  pub low : span .low ≤ before .low
-  pub high : before .high ≤ span .high
-  pub takes : Within span at
+-- a span that takes in a coordinate too: both ends are inside
+abbrev pub spanWith : Span → (at : ℕ) → Span
+spanWith span at = record { low = min (span .low) at; high = max (span .high) at }
 
 -- the same on each axis
-pub record WidenedBox (before : Box) (x : Vertex) (box : Box) : Type 0 where
-  pub layers : Widened (before .layers) (x .layer) (box .layers)
-  pub rows : Widened (before .rows) (x .row) (box .rows)
-  pub columns : Widened (before .columns) (x .column) (box .columns)
+abbrev pub boxWith : Box → Vertex → Box
+boxWith box x =
+    record { layers = spanWith (box .layers) (x .layer); rows = spanWith (box .rows) (x .row); columns = spanWith (box .columns) (x .column) }
 
--- those of some pins that are unjoined are in the box; its low ends are at most 255, so no coordinate is more steps off
-pub record Around (g : Grid) (spots pins : List ℕ) (box : Box) : Type 0 where
-  pub takes : (v : ℕ) → member v pins ≡ true → getD spots v 0 ≡ 2 → InBox box (vertexBy g v)
-  pub layers : box .layers .low ≤ 255
-  pub rows : box .rows .low ≤ 255
-  pub columns : box .columns .low ≤ 255
+-- the span that takes in no coordinate: the first one sets both ends
+abbrev pub nowhere : Span
+nowhere = record { low = 255; high = 0 }
+
+-- the box of the unjoined ones among the first so many pins
+unfoldable pub unjoinedBox : Grid → (spots pins : List ℕ) → (count : ℕ) → Box
+unjoinedBox g spots pins zero = record { layers = nowhere; rows = nowhere; columns = nowhere }
+unjoinedBox g spots pins (suc n) =
+    let before = unjoinedBox g spots pins n in
+    let pin = getD pins n 0 in
+    cond (eqb (getD spots pin 0) 2) (boxWith before (vertexBy g pin)) before
 
 -- ---- prices
 
--- none of the first so many is lower
-pub record AtMost (prices : List ℕ) (count price : ℕ) : Type 0 where
-  pub fits : price < 1024
-  pub lowest : (k : ℕ) → k < count → price ≤ getD prices k 0
+-- the lowest of the first so many, and of the dearest that a layer line can name
+unfoldable pub cheapestOf : (prices : List ℕ) → (count : ℕ) → ℕ
+cheapestOf prices zero = 1023
+cheapestOf prices (suc n) = min (cheapestOf prices n) (getD prices n 0)
 
--- ---- an axis
+-- ---- the table
 
 -- 7 times the price of the steps to the span
 unfoldable pub leaves : Span → (price at : ℕ) → ℕ
 leaves span price at = 7 * (price * (span .low - at + (at - span .high)))
 
--- so many entries from one on are filled, those before it are as they were
-pub record AxisFilled (before bounds : List ℕ) (first count : ℕ) (span : Span) (price : ℕ) : Type 0 where
-  pub filled : (k : ℕ) → k < count → getD bounds (first + k) 0 ≡ leaves span price k
-  pub kept : (k : ℕ) → k < first → getD bounds k 0 ≡ getD before k 0
-  pub small : SmallBounds bounds
+-- a table with the entries of the first so many coordinates, from a place on
+unfoldable pub axisFilled : Span → (price first count : ℕ) → (before : List ℕ) → List ℕ
+axisFilled span price first zero before = before
+axisFilled span price first (suc n) before = set (axisFilled span price first n before) (first + n) (leaves span price n)
+
+-- with the entries of all rows, columns and layers: a step costs at least the cheapest wire, and no via leads up from the top layer
+unfoldable pub filled : Tech → (spots pins : List ℕ) → (count : ℕ) → (before : List ℕ) → List ℕ
+filled t spots pins count before =
+    let box = unjoinedBox (gridOf (t .grid)) spots pins count in
+    let wire = cheapestOf (t .layers .wire) (t .grid .layers) in
+    let via = cheapestOf (t .layers .via) (t .grid .layers - 1) in
+    axisFilled (box .layers) via 516 (t .grid .layers)
+    (axisFilled (box .columns) wire 258 (t .grid .columns) (axisFilled (box .rows) wire 1 (t .grid .rows) before))

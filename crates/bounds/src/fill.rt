@@ -1,11 +1,11 @@
 // The bound made for the unjoined pins of a net: the steps off their box, each at the cheapest price.
 ghost use mathlib.Core.Path.{_≡_};
-ghost use Prim.Native.Nat.{_+_, _-_, _≤_, _<_};
-ghost use lib.ListN.{length, take};
+ghost use Prim.Native.Nat.{_+_, _-_, _≤_, _<_, min, max};
+ghost use lib.ListN.{length};
 ghost use Rattle.job.specs.Structs.{Small, gridOf, vertexOf};
 ghost use Rattle.rules.specs.Structs.{TechFits, techBy};
 ghost use Rattle.bounds.specs.Bounds.{SmallBounds, Bounding};
-ghost use Rattle.bounds.specs.Fills.{Among, Widened, WidenedBox, Around, AtMost, leaves, AxisFilled};
+ghost use Rattle.bounds.specs.Fills.{Among, spanWith, boxWith, unjoinedBox, cheapestOf, leaves, axisFilled, filled};
 use job::grid::Grid;
 use job::grid::Vertex;
 use job::groups::Box;
@@ -18,13 +18,13 @@ use tree::UNJOINED;
 const MOST: usize = 1023;
 
 fn lesser(a: usize, b: usize) -> usize
-    ensures { λ r. ⌜ (r ≤ a) × (r ≤ b) ⌝ }
+    ensures { λ r. ⌜ r ≡ min a b ⌝ }
 {
     if a < b { a } else { b }
 }
 
 fn greater(a: usize, b: usize) -> usize
-    ensures { λ r. ⌜ (a ≤ r) × (b ≤ r) ⌝ }
+    ensures { λ r. ⌜ r ≡ max a b ⌝ }
 {
     if a < b { b } else { a }
 }
@@ -38,7 +38,7 @@ fn above(a: usize, b: usize) -> usize
 
 // A span that reaches as far as a coordinate too.
 fn widened(span: Span, at: usize) -> Span
-    ensures { λ r. ⌜ Widened span at r ⌝ }
+    ensures { λ r. ⌜ r ≡ spanWith span at ⌝ }
 {
     Span {
         low: lesser(span.low, at),
@@ -47,7 +47,7 @@ fn widened(span: Span, at: usize) -> Span
 }
 
 fn widened_box(around: Box, vertex: Vertex) -> Box
-    ensures { λ r. ⌜ WidenedBox around (vertexOf vertex) r ⌝ }
+    ensures { λ r. ⌜ r ≡ boxWith around (vertexOf vertex) ⌝ }
 {
     let layers = widened(around.layers, vertex.layer);
     let rows = widened(around.rows, vertex.row);
@@ -62,7 +62,7 @@ fn widened_box(around: Box, vertex: Vertex) -> Box
 // The box of the unjoined pins; its spans have no inside where there are none.
 fn unjoined_box(grid: Grid, spots: &[u8; 16384], pins: &[usize; 16], count: usize) -> Box
     requires { ⌜ (Small grid) × (Among (gridOf grid) (now spots) (now pins) count) ⌝ }
-    ensures { λ r. ⌜ Around (gridOf grid) (now (spots .entry)) (take count (now (pins .entry))) r ⌝ }
+    ensures { λ r. ⌜ r ≡ unjoinedBox (gridOf grid) (now (spots .entry)) (now (pins .entry)) count ⌝ }
 {
     let none = Span { low: 255, high: 0 };
     let mut around = Box {
@@ -82,7 +82,7 @@ fn unjoined_box(grid: Grid, spots: &[u8; 16384], pins: &[usize; 16], count: usiz
 // The lowest of the first prices.
 fn cheapest(prices: [usize; 8], count: usize) -> usize
     requires { ⌜ count ≤ 8 ⌝ }
-    ensures { λ r. ⌜ AtMost prices count r ⌝ }
+    ensures { λ r. ⌜ r ≡ cheapestOf prices count ⌝ }
 {
     let mut price = MOST;
     for layer in 0..count {
@@ -101,9 +101,8 @@ fn left_at(span: Span, price: usize, at: usize) -> u64
 
 // The entries of all rows, columns or layers.
 fn fill_axis(bounds: &mut [u64], first: usize, count: usize, span: Span, price: usize)
-    requires { ⌜ (SmallBounds (now bounds)) × (first + count ≤ length (now bounds)) × (count ≤ 256) ⌝ }
-    requires { ⌜ (span .low ≤ 255) × (price < 1024) ⌝ }
-    ensures { λ _. ⌜ AxisFilled (now (bounds .entry)) (now (bounds .exit)) first count span price ⌝ }
+    requires { ⌜ (first + count ≤ length (now bounds)) × (count ≤ 256) × (span .low ≤ 255) × (price < 1024) ⌝ }
+    ensures { λ _. ⌜ now (bounds .exit) ≡ axisFilled span price first count (now (bounds .entry)) ⌝ }
 {
     for i in 0..count {
         bounds[first + i] = left_at(span, price, i);
@@ -119,7 +118,8 @@ pub fn fill_bounds(
     count: usize,
 )
     requires { ⌜ (TechFits tech) × (SmallBounds (now bounds)) × (Among (gridOf (tech .grid)) (now spots) (now pins) count) ⌝ }
-    ensures { λ _. ⌜ (Bounding (techBy tech) (now (spots .entry)) (now (bounds .exit))) × (SmallBounds (now (bounds .exit))) ⌝ }
+    ensures { λ _. ⌜ (Bounding (techBy tech) (now (spots .entry)) (now (bounds .exit))) × (SmallBounds (now (bounds .exit)))
+        × (now (bounds .exit) ≡ filled tech (now (spots .entry)) (now (pins .entry)) count (now (bounds .entry))) ⌝ }
 {
     let grid = tech.grid;
     let layers = tech.layers;
