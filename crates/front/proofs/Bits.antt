@@ -2,7 +2,7 @@
 --     bit-some, bit-fits            a bit is some; a byte without it has room for it
 --     last-bit                      a move that is none of the first three
 --     with-set, with-kept           the byte with it set, by its test
---     none-has, all-have            a byte without any, and one with all
+--     none-has                      a byte without any
 --     moves-set, moves-stay         one byte of many with it set: it is set afterwards, and other bits stay
 use Prim.Native.Nat.{ℕ, zero, suc, _+_, _/_, _%_, _<_}
 use mathlib.Core.Path.{_≡_, refl, ap, _∙_}
@@ -55,14 +55,6 @@ none-has zero none has = omega arith
 none-has (suc zero) none has = omega arith
 none-has (suc (suc zero)) none has = omega arith
 none-has (suc (suc (suc m))) none has = omega arith
-
--- one with all
-pub all-have : (m : ℕ) → HasMove 15 m
-unfolding bitOf
-all-have zero = refl
-all-have (suc zero) = refl
-all-have (suc (suc zero)) = refl
-all-have (suc (suc (suc m))) = refl
 
 -- ---- a bit is set
 

@@ -22,6 +22,7 @@ use Rattle.heap.specs.Heaps.{keyOf, slotOf, wordOf, In, itemAt, above, Heaped, 
 use Rattle.heap.proofs.Words.{key-word, slot-word, open-or-not}
 use Rattle.heap.proofs.Swaps.{seat-in}
 use Rattle.heap.proofs.Laws.{heaped-none, heaped-store, lowered-left, taken-left, room-both, room-beside}
+use Rattle.front.specs.Fronts.{markSlot}
 use Rattle.front.specs.Lists.{listAt, Done, Laid}
 
 -- a word of the list
@@ -313,28 +314,29 @@ module _ {n size settled last item : ℕ} {found work : List ℕ} (l : Laid n si
 
 -- ---- a mark
 
-module _ {n size settled last c : ℕ} {work : List ℕ} (l : Laid n size settled last work) (known : c < n) (done : Done n work c) where
+module _ {n size settled last c : ℕ} {work : List ℕ} (l : Laid n size settled last work) (known : c < n) (done : Done n work c) (lead : ℕ)
+    (few : lead < 4) where
   -- the slice with the mark
   abbrev marking : List ℕ
-  marking = set work c (wordOf (keyOf (getD work c 0)) 1048574)
+  marking = set work c (wordOf (keyOf (getD work c 0)) (markSlot lead))
 
-  mark-same : getD marking c 0 ≡ wordOf (keyOf (getD work c 0)) 1048574
-  mark-same = getD-set-same work c (wordOf (keyOf (getD work c 0)) 1048574) 0 (omega (arith, l .heaped .seated .room))
+  mark-same : getD marking c 0 ≡ wordOf (keyOf (getD work c 0)) (markSlot lead)
+  mark-same = getD-set-same work c (wordOf (keyOf (getD work c 0)) (markSlot lead)) 0 (omega (arith, l .heaped .seated .room))
 
   mark-other : (d : ℕ) → (d ≡ c → ⊥) → getD marking d 0 ≡ getD work d 0
-  mark-other d e = getD-set-other work c d (wordOf (keyOf (getD work c 0)) 1048574) 0 e
+  mark-other d e = getD-set-other work c d (wordOf (keyOf (getD work c 0)) (markSlot lead)) 0 e
 
   -- no key changes
   pub mark-keys : (d : ℕ) → keyOf (getD marking d 0) ≡ keyOf (getD work d 0)
   mark-keys d = by (ℕ-discrete d c)
     where
       by : Dec (d ≡ c) → keyOf (getD marking d 0) ≡ keyOf (getD work d 0)
-      by (yes e) = rw e (ap keyOf mark-same ∙ key-word (keyOf (getD work c 0)) 1048574 (omega arith))
+      by (yes e) = rw e (ap keyOf mark-same ∙ key-word (keyOf (getD work c 0)) (markSlot lead) (omega (arith, few)))
       by (no e) = ap keyOf (mark-other d e)
 
   -- the place has the mark's slot, which is no place of the heap
-  pub mark-slot : slotOf (getD marking c 0) ≡ 1048574
-  mark-slot = ap slotOf mark-same ∙ slot-word (keyOf (getD work c 0)) 1048574 (omega arith)
+  pub mark-slot : slotOf (getD marking c 0) ≡ markSlot lead
+  mark-slot = ap slotOf mark-same ∙ slot-word (keyOf (getD work c 0)) (markSlot lead) (omega (arith, few))
 
   -- so no place gets into the heap, or leaves it
   in-mark : (d : ℕ) → In work n d → In marking n d
@@ -374,7 +376,7 @@ module _ {n size settled last c : ℕ} {work : List ℕ} (l : Laid n size settle
       record {
         seated =
             record {
-              room = omega (arith, s .room, length-set work c (wordOf (keyOf (getD work c 0)) 1048574));
+              room = omega (arith, s .room, length-set work c (wordOf (keyOf (getD work c 0)) (markSlot lead)));
               few = s .few;
               fits = s .fits;
               small = λ d h. omega (arith, mark-keys d, s .small d h);

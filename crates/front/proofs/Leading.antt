@@ -36,27 +36,27 @@ use Rattle.front.proofs.Costing.{cost-in, in-cost, costs-told, left-pla
 
 -- ---- one move
 
--- an entry is that of a mark at a cost just where it has the mark and the cost
-mark-told : (left word cost : ℕ) → eqb word ((8 * cost + left + 1) * 1048576 + 1048574)
-    ≡ cond (eqb (slotOf word) 1048574) (isCost cost (entryCost (costIn left (keyOf word)))) false
+-- an entry, without the move that it tells, is that of a mark at a cost just where it has the mark and the cost
+mark-told : (left word cost : ℕ) → eqb (word / 4) ((8 * cost + left + 1) * 262144 + 262142)
+    ≡ cond (eqb (slotOf word / 4) 262142) (isCost cost (entryCost (costIn left (keyOf word)))) false
 unfolding slotOf keyOf isCost entryCost
-mark-told left word cost = by (ℕ-discrete (word % 1048576) 1048574) (costIn left (word / 1048576)) refl
+mark-told left word cost = by (ℕ-discrete (word % 1048576 / 4) 262142) (costIn left (word / 1048576)) refl
   where
-    by : Dec (word % 1048576 ≡ 1048574) → (told : ℕ) → costIn left (word / 1048576) ≡ told
-        → eqb word ((8 * cost + left + 1) * 1048576 + 1048574) ≡ cond (eqb (word % 1048576) 1048574) (isCost cost (entryCost (costIn left (word / 1048576)))) false
-    by (no e) told is = rw (ne-eqb (word % 1048576) 1048574 e) (ne-eqb word ((8 * cost + left + 1) * 1048576 + 1048574) (λ f. e (omega arith)))
-    by (yes e) zero is = rw (eq-eqb (word % 1048576) 1048574 e, is) (ne-eqb word ((8 * cost + left + 1) * 1048576 + 1048574) (λ f. not-told f))
+    by : Dec (word % 1048576 / 4 ≡ 262142) → (told : ℕ) → costIn left (word / 1048576) ≡ told
+        → eqb (word / 4) ((8 * cost + left + 1) * 262144 + 262142) ≡ cond (eqb (word % 1048576 / 4) 262142) (isCost cost (entryCost (costIn left (word / 1048576)))) false
+    by (no e) told is = rw (ne-eqb (word % 1048576 / 4) 262142 e) (ne-eqb (word / 4) ((8 * cost + left + 1) * 262144 + 262142) (λ f. e (omega arith)))
+    by (yes e) zero is = rw (eq-eqb (word % 1048576 / 4) 262142 e, is) (ne-eqb (word / 4) ((8 * cost + left + 1) * 262144 + 262142) (λ f. not-told f))
       where
-        not-told : word ≡ (8 * cost + left + 1) * 1048576 + 1048574 → ⊥
+        not-told : word / 4 ≡ (8 * cost + left + 1) * 262144 + 262142 → ⊥
         not-told f = let key : word / 1048576 ≡ suc (8 * cost + left) = omega arith in omega (arith, is, in-cost left (word / 1048576) key)
-    by (yes e) (suc n) is = rw (eq-eqb (word % 1048576) 1048574 e, is) (at (ℕ-discrete n cost))
+    by (yes e) (suc n) is = rw (eq-eqb (word % 1048576 / 4) 262142 e, is) (at (ℕ-discrete n cost))
       where
         key : word / 1048576 ≡ suc (8 * n + left)
         key = cost-in left (word / 1048576) is
 
-        at : Dec (n ≡ cost) → eqb word ((8 * cost + left + 1) * 1048576 + 1048574) ≡ eqb n cost
-        at (yes f) = rw (eq-eqb n cost f) (eq-eqb word ((8 * cost + left + 1) * 1048576 + 1048574) (omega (arith, key)))
-        at (no f) = rw (ne-eqb n cost f) (ne-eqb word ((8 * cost + left + 1) * 1048576 + 1048574) (λ g. f (omega (arith, key))))
+        at : Dec (n ≡ cost) → eqb (word / 4) ((8 * cost + left + 1) * 262144 + 262142) ≡ eqb n cost
+        at (yes f) = rw (eq-eqb n cost f) (eq-eqb (word / 4) ((8 * cost + left + 1) * 262144 + 262142) (omega (arith, key)))
+        at (no f) = rw (ne-eqb n cost f) (ne-eqb (word / 4) ((8 * cost + left + 1) * 262144 + 262142) (λ g. f (omega (arith, key))))
 
 module _ (t : Tech) (view : View) (spots bounds work : List ℕ) (best e : ℕ) {move : Step Place} where
   -- a blocked move leads nowhere
@@ -71,15 +71,15 @@ module _ (t : Tech) (view : View) (spots bounds work : List ℕ) (best e : ℕ) 
     lead-goal goal = rw (is, eq-eqb (getD spots (q .vertex) 0) 2 goal) refl
 
     -- elsewhere the entry has a mark
-    pub lead-unmarked : (getD spots (q .vertex) 0 ≡ 2 → ⊥) → {code : ℕ} → code ≡ placeCode t q → (getD work code 0 % 1048576 ≡ 1048574 → ⊥)
+    pub lead-unmarked : (getD spots (q .vertex) 0 ≡ 2 → ⊥) → {code : ℕ} → code ≡ placeCode t q → (getD work code 0 % 1048576 / 4 ≡ 262142 → ⊥)
         → false ≡ leadBy t view spots bounds work best e move
     unfolding isLead markBy slotOf
     lead-unmarked other {code} at bare =
-        rw (is, ne-eqb (getD spots (q .vertex) 0) 2 other, ne-eqb (getD work (placeCode t q) 0 % 1048576) 1048574 (rw at at bare)) refl
+        rw (is, ne-eqb (getD spots (q .vertex) 0) 2 other, ne-eqb (getD work (placeCode t q) 0 % 1048576 / 4) 262142 (rw at at bare)) refl
 
     -- and is that of a mark at the distance
     pub lead-mark : (getD spots (q .vertex) 0 ≡ 2 → ⊥) → {code left : ℕ} → code ≡ placeCode t q → left ≡ leftAt t bounds (placeCode t q)
-        → eqb (getD work code 0) ((8 * (e + c) + left + 1) * 1048576 + 1048574) ≡ leadBy t view spots bounds work best e move
+        → eqb (getD work code 0 / 4) ((8 * (e + c) + left + 1) * 262144 + 262142) ≡ leadBy t view spots bounds work best e move
     unfolding isLead reachedBy costs markBy
     lead-mark other at rest =
         rw (is, ne-eqb (getD spots (q .vertex) 0) 2 other, at, rest) (mark-told (leftAt t bounds (placeCode t q)) (getD work (placeCode t q) 0) (e + c))

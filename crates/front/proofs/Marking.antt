@@ -28,7 +28,8 @@ use Rattle.paths.specs.Distances.{Cost, fin, lowestFrom}
 use Rattle.paths.specs.Starts.{Starts}
 use Rattle.paths.specs.Forward.{From, starts, goes, Forward}
 use Rattle.paths.specs.Marks.{Leads, ends, goesOn, Marks, isLead, lowestLead, isMarked, markedStart}
-use Rattle.paths.proofs.Lowest.{lowest-here, lowest-next, lowest-passes, lowest-is}
+use Rattle.paths.proofs.Lowest.{lowest-here, lowest-next, lowest-passes, lowest-is, lowest-same}
+use Rattle.paths.proofs.FollowMarks.{same-test}
 use Rattle.paths.proofs.Marks.{leads-map, leads-known, test-leads, leads-test}
 use Rattle.rules.specs.Tracks.{outside, at, entered}
 use Rattle.rules.specs.Structs.{enteredOf, techBy, placeOf}
@@ -50,7 +51,7 @@ use Rattle.heap.proofs.Words.{open-or-not}
 use Rattle.metal.specs.Codes.{Beyond}
 use Rattle.metal.proofs.Slices.{beyond-by}
 use Rattle.bounds.specs.Bounds.{boundAt, Bounding}
-use Rattle.front.specs.Fronts.{systemBy, startsBy, leftAt, costs, reachedBy, atLeast, markBy, bestBy, Searched}
+use Rattle.front.specs.Fronts.{systemBy, startsBy, leftAt, costs, reachedBy, atLeast, markSlot, markBy, markedLead, bestBy, Searched}
 use Rattle.front.specs.Lists.{listAt, Done, Laid}
 use Rattle.front.specs.Bits.{HasMove, withMove}
 use Rattle.front.specs.Spreads.{keys, Ended}
@@ -184,24 +185,28 @@ module _ {t : Tech} {view : View} {spots bounds : List ℕ} {best item : ℕ} {p
       record {
         left = λ not. (refl, refl);
         none = λ not. none;
-        marks = λ is. absurd (true≢false (sym is));
+        lead = 0;
+        known = λ is. absurd (true≢false (sym is));
         leads = λ is. absurd (true≢false (sym is));
+        marks = λ is. absurd (true≢false (sym is));
         lit = λ is. absurd (true≢false (sym is));
         stays = λ u m on. on;
         bytes = long;
       }
 
   -- a move does
-  pub asked-marked : {lights after : List ℕ} → ((e : ℕ) → costs t bounds work item ≡ suc e → lowestBy t view spots bounds work best p e < 4)
-      → after ≡ set work item (wordOf (keyOf (getD work item 0)) 1048574)
+  pub asked-marked : {lights after : List ℕ} {lead : ℕ} → lead < 4 → ((e : ℕ) → costs t bounds work item ≡ suc e → lead ≡ lowestBy t view spots bounds work best p e)
+      → after ≡ set work item (wordOf (keyOf (getD work item 0)) (markSlot lead))
       → ((u m : ℕ) → u < vertices (t .grid) → entered (t .grid) u m ≡ at (p .vertex) → HasMove (getD lights u 0) m)
       → ((u m : ℕ) → HasMove (getD near u 0) m → HasMove (getD lights u 0) m) → length lights ≡ 16384 → Asked t view spots bounds best item p near work lights after true
-  asked-marked leads marks lit stays long =
+  asked-marked {lead = lead} known leads marks lit stays long =
       record {
         left = λ not. absurd (true≢false not);
         none = λ not. absurd (true≢false not);
-        marks = λ is. marks;
+        lead = lead;
+        known = λ is. known;
         leads = λ is. leads;
+        marks = λ is. marks;
         lit = λ is. lit;
         stays = stays;
         bytes = long;
@@ -242,13 +247,13 @@ module _ (test : ℕ → Bool) where
 
 module _ (t : Tech) (work : List ℕ) (p : Place) where
   -- a place has a mark just where its slot says so
-  mark-told : markBy t work p ≡ true → slotOf (getD work (placeCode t p) 0) ≡ 1048574
+  mark-told : markBy t work p ≡ true → slotOf (getD work (placeCode t p) 0) / 4 ≡ 262142
   unfolding markBy
-  mark-told is = eqb-true _ 1048574 is
+  mark-told is = eqb-true _ 262142 is
 
-  told-mark : slotOf (getD work (placeCode t p) 0) ≡ 1048574 → markBy t work p ≡ true
+  told-mark : slotOf (getD work (placeCode t p) 0) / 4 ≡ 262142 → markBy t work p ≡ true
   unfolding markBy
-  told-mark is = eq-eqb _ 1048574 is
+  told-mark is = eq-eqb _ 262142 is
 
   -- and a cost where its key does
   cost-told : (bounds : List ℕ) {e : ℕ} → reachedBy t bounds work p ≡ fin e → costs t bounds work (placeCode t p) ≡ suc e
@@ -302,7 +307,7 @@ module _ (t : Tech) (view : View) (spots bounds work₀ : List ℕ) (settled bes
   abbrev Lead : (work : List ℕ) → Place → (e m : ℕ) → Type 0
   Lead work p e m = Leads S E best (λ q. markBy t work q ≡ true) p e m
 
-  -- the others have marks just where a move leads on; only the moves of a vertex's byte may; and of the starts with marks the lowest is known
+  -- the others have marks just where a move leads on, and each tells the lowest; only the moves of a vertex's byte may; and of the starts with marks the lowest is known
   pub record Marking (near work : List ℕ) (left start : ℕ) : Type 0 where
     pub few : left ≤ settled
     pub long : length work ≡ length work₀
@@ -313,6 +318,8 @@ module _ (t : Tech) (view : View) (spots bounds work₀ : List ℕ) (settled bes
     pub leads : {p : Place} {e : ℕ} → GoodPlace t p → E p ≡ fin e → markBy t work p ≡ true → (m : ℕ) × Lead work p e m
     pub made : (i : ℕ) → left ≤ i → i < settled → {p : Place} {e m : ℕ} → GoodPlace t p → placeCode t p ≡ listAt (places t) work₀ i → E p ≡ fin e
         → Lead work p e m → markBy t work p ≡ true
+    pub told : (i : ℕ) → left ≤ i → i < settled → {p : Place} {e : ℕ} → GoodPlace t p → placeCode t p ≡ listAt (places t) work₀ i → E p ≡ fin e
+        → markBy t work p ≡ true → markedLead t work p ≡ lowestLead S E best (markBy t work) p e
     pub goals : {p q : Place} {m c : ℕ} → GoodPlace t p → Done (places t) work₀ (placeCode t p) → Legal S p m c q → eqb (getD spots (q .vertex) 0) 2 ≡ true
         → HasMove (getD near (p .vertex) 0) m
     pub lit : {p q : Place} {m c : ℕ} → GoodPlace t p → Legal S p m c q → markBy t work q ≡ true → HasMove (getD near (p .vertex) 0) m
@@ -326,7 +333,7 @@ module _ (t : Tech) (view : View) (spots bounds work₀ : List ℕ) (settled bes
   module _ (fine : GoodTech t) (bounding : Bounding t spots bounds) {near₀ : List ℕ} {size : ℕ}
       (ended : Ended t view spots bounds near₀ work₀ size settled best) where
     -- no place has a mark
-    no-mark : (c : ℕ) → c < places t → slotOf (getD work₀ c 0) ≡ 1048574 → ⊥
+    no-mark : (c : ℕ) → c < places t → slotOf (getD work₀ c 0) / 4 ≡ 262142 → ⊥
     unfolding slotOf
     no-mark c h is = by (decLt 0 (keys work₀ c)) (open-or-not (places t) (getD work₀ c 0))
       where
@@ -349,6 +356,7 @@ module _ (t : Tech) (view : View) (spots bounds work₀ : List ℕ) (settled bes
           within = λ good at is. absurd (unmarked good is);
           leads = λ good at is. absurd (unmarked good is);
           made = λ i h k. absurd (omega arith);
+          told = λ i h k. absurd (omega arith);
           goals = λ good done legal g. ended .between .spread .lit good done (λ f. legal .known) legal g;
           lit = λ good legal is. absurd (unmarked (lawful-by view spots fine .keeps good legal) is);
           bytes = ended .between .bytes;
@@ -484,6 +492,7 @@ module _ (t : Tech) (view : View) (spots bounds work₀ : List ℕ) (settled bes
                 within = so-far .within;
                 leads = so-far .leads;
                 made = λ i h k good code at-e lead. by i h k good code at-e lead (ℕ-discrete i left);
+                told = λ i h k good code at-e is. tells i h k good code at-e is (ℕ-discrete i left);
                 goals = so-far .goals;
                 lit = so-far .lit;
                 bytes = so-far .bytes;
@@ -499,22 +508,41 @@ module _ (t : Tech) (view : View) (spots bounds work₀ : List ℕ) (settled bes
                   let same = same-here good (code ∙ ap (listAt (places t) work₀) f ∙ is-item) in
                   absurd (no-lead (rw same at at-e) (subst (λ (x : Place). Lead work x e m) same lead))
 
+              tells : (i : ℕ) → left ≤ i → i < settled → {p : Place} {e : ℕ} → GoodPlace t p → placeCode t p ≡ listAt (places t) work₀ i → E p ≡ fin e
+                  → markBy t work p ≡ true → Dec (i ≡ left) → markedLead t work p ≡ lowestLead S E best (markBy t work) p e
+              tells i h k good code at-e is (no f) = so-far .told i (omega arith) k good code at-e is
+              tells i h k {p} {e} good code at-e is (yes f) =
+                  let same = same-here good (code ∙ ap (listAt (places t) work₀) f ∙ is-item) in
+                  let (m, lead) = so-far .leads good at-e is in
+                  absurd (no-lead (rw same at at-e) (subst (λ (x : Place). Lead work x e m) same lead))
+
         -- where one does, the place gets a mark, and the moves that enter it their bits
-        module _ (some : (e : ℕ) → costs t bounds work item ≡ suc e → lowestBy t view spots bounds work best here e < 4) where
+        module _ {lead : ℕ} (few : lead < 4) (some : (e : ℕ) → costs t bounds work item ≡ suc e → lead ≡ lowestBy t view spots bounds work best here e) where
           abbrev marked : List ℕ
-          marked = set work item (wordOf (keyOf (getD work item 0)) 1048574)
+          marked = set work item (wordOf (keyOf (getD work item 0)) (markSlot lead))
 
           marked-other : {d : ℕ} → (d ≡ item → ⊥) → getD marked d 0 ≡ getD work d 0
-          marked-other {d} e = getD-set-other work item d (wordOf (keyOf (getD work item 0)) 1048574) 0 e
+          marked-other {d} e = getD-set-other work item d (wordOf (keyOf (getD work item 0)) (markSlot lead)) 0 e
 
-          -- this place has a mark now
+          -- this place has a mark now, which tells the move
+          slot-here : (q : Place) → placeCode t q ≡ item → slotOf (getD marked (placeCode t q) 0) ≡ markSlot lead
+          slot-here q e = ap (λ d. slotOf (getD marked d 0)) e ∙ mark-slot now known done lead few
+
+          lead-told : (q : Place) → placeCode t q ≡ item → markedLead t marked q ≡ lead
+          unfolding markedLead
+          lead-told q e = omega (arith, few, slot-here q e)
+
           mark-here : (q : Place) → placeCode t q ≡ item → markBy t marked q ≡ true
-          mark-here q e = told-mark t marked q (ap (λ d. slotOf (getD marked d 0)) e ∙ mark-slot now known done)
+          mark-here q e = told-mark t marked q (omega (arith, few, slot-here q e))
 
           -- the others are as they were
           mark-same : (q : Place) → (placeCode t q ≡ item → ⊥) → markBy t marked q ≡ markBy t work q
           unfolding markBy
-          mark-same q e = ap (λ w. eqb (slotOf w) 1048574) (marked-other e)
+          mark-same q e = ap (λ w. eqb (slotOf w / 4) 262142) (marked-other e)
+
+          told-same : (q : Place) → (placeCode t q ≡ item → ⊥) → markedLead t marked q ≡ markedLead t work q
+          unfolding markedLead
+          told-same q e = ap (λ w. slotOf w % 4) (marked-other e)
 
           mark-stays : (q : Place) → markBy t work q ≡ true → markBy t marked q ≡ true
           mark-stays q is = by (ℕ-discrete (placeCode t q) item)
@@ -530,7 +558,7 @@ module _ (t : Tech) (view : View) (spots bounds work₀ : List ℕ) (settled bes
           lead-here : {p : Place} {e : ℕ} → GoodPlace t p → placeCode t p ≡ item → E p ≡ fin e → (m : ℕ) × Lead work p e m
           lead-here {p} {e} good code at-e =
               let same = same-here good code in
-              let (m, lead) = lead-some t view spots bounds work best here e (some e (cost-here (rw same at at-e))) in
+              let (m, lead) = lead-some t view spots bounds work best here e (omega (arith, few, some e (cost-here (rw same at at-e)))) in
               (m, subst (λ (x : Place). Lead work x e m) (sym same) (lead-was lead))
 
           -- at no more than the best cost
@@ -548,6 +576,27 @@ module _ (t : Tech) (view : View) (spots bounds work₀ : List ℕ) (settled bes
                   let far = ap (keys work₀) (sym (same ∙ sym is-item)) ∙ costs-told t bounds work₀ _ (cost-told t work₀ q bounds at-q) in
                   let near-by = ap (keys work₀) (sym code) ∙ costs-told t bounds work₀ _ (cost-told t work₀ p bounds at-e) in
                   omega (arith, laid₀ .rising left i h k, far, near-by, lawful-by view spots fine .costs good legal, nearer-by view fine bounding good legal)
+
+          -- so the lowest that leads on from there stays the same
+          lowest-stays : {i : ℕ} → left ≤ i → i < settled → {p : Place} {e : ℕ} → GoodPlace t p → placeCode t p ≡ listAt (places t) work₀ i → E p ≡ fin e
+              → lowestLead S E best (markBy t work) p e ≡ lowestLead S E best (markBy t marked) p e
+          unfolding lowestLead
+          lowest-stays h k {p} {e} good code at-e =
+              lowest-same (λ m. isLead S E best (markBy t work) e (S .step p m)) (λ m. isLead S E best (markBy t marked) e (S .step p m)) 4
+              (λ m less. same-test _ _ (λ pass. leads-test (lead-stays (test-leads less pass)))
+              (λ pass. leads-test (lead-before h k good code at-e (test-leads less pass)))) 0 4 (omega arith)
+
+          told-on : (i : ℕ) → left ≤ i → i < settled → {p : Place} {e : ℕ} → GoodPlace t p → placeCode t p ≡ listAt (places t) work₀ i → E p ≡ fin e
+              → markBy t marked p ≡ true → markedLead t marked p ≡ lowestLead S E best (markBy t marked) p e
+          told-on i h k {p} {e} good code at-e is = by (ℕ-discrete (placeCode t p) item) (ℕ-discrete i left)
+            where
+              by : Dec (placeCode t p ≡ item) → Dec (i ≡ left) → markedLead t marked p ≡ lowestLead S E best (markBy t marked) p e
+              by (yes f) last =
+                  let same = same-here good f in
+                  lead-told p f ∙ some e (cost-here (rw same at at-e)) ∙ ap (λ (x : Place). lowestBy t view spots bounds work best x e) (sym same)
+                  ∙ ap (λ (D : Place → Cost). lowestLead S D best (markBy t work) p e) (same-reached t bounds work work₀ (so-far .same)) ∙ lowest-stays h k good code at-e
+              by (no f) (yes g) = absurd (f (code ∙ ap (listAt (places t) work₀) g ∙ is-item))
+              by (no f) (no g) = told-same p f ∙ so-far .told i (omega arith) k good code at-e (sym (mark-same p f) ∙ is) ∙ lowest-stays h k good code at-e
 
           made-on : (i : ℕ) → left ≤ i → i < settled → {p : Place} {e m : ℕ} → GoodPlace t p → placeCode t p ≡ listAt (places t) work₀ i → E p ≡ fin e
               → Lead marked p e m → markBy t marked p ≡ true
@@ -600,12 +649,13 @@ module _ (t : Tech) (view : View) (spots bounds work₀ : List ℕ) (settled bes
                 record {
                   few = omega (arith, more);
                   long = length-set work item _ ∙ so-far .long;
-                  same = λ d. mark-keys now known done d ∙ so-far .same d;
+                  same = λ d. mark-keys now known done lead few d ∙ so-far .same d;
                   rest = λ j h. marked-other (λ e. omega (arith, known)) ∙ so-far .rest j h;
-                  laid = λ size last l. laid-mark (so-far .laid size last l) known done;
+                  laid = λ size last l. laid-mark (so-far .laid size last l) known done lead few;
                   within = within-on;
                   leads = leads-on;
                   made = λ i h k good code at-e lead. made-on i h k good code at-e lead;
+                  told = told-on;
                   goals = λ {p} {q} {m} good d legal g. stays (p .vertex) m (so-far .goals good d legal g);
                   lit = lit-on;
                   bytes = bytes;
@@ -666,19 +716,19 @@ module _ (t : Tech) (view : View) (spots bounds work₀ : List ℕ) (settled bes
                   rw (same-near, same-work, did .same (λ is. absurd (true≢false (sym is ∙ not)))) (marking-none (did .asked .none not))
               by true is = one (ℕ-discrete (costs t bounds work item) 1)
                 where
-                  marks : after ≡ set work item (wordOf (keyOf (getD work item 0)) 1048574)
+                  marks : after ≡ set work item (wordOf (keyOf (getD work item 0)) (markSlot (did .asked .lead)))
                   marks = did .asked .marks is
 
                   cost : costs t bounds after item ≡ costs t bounds work item
-                  cost = same-costs t bounds after work item (ap (λ (w : List ℕ). keys w item) marks ∙ mark-keys now known done item)
+                  cost = same-costs t bounds after work item (ap (λ (w : List ℕ). keys w item) marks ∙ mark-keys now known done (did .asked .lead) (did .asked .known is) item)
 
                   one : Dec (costs t bounds work item ≡ 1) → Marking lights after left first
                   one (yes e) =
                       rw marks
-                      (marking-start (did .asked .leads is) lights (did .asked .lit is) (did .asked .stays) (did .asked .bytes) e (did .lower is (cost ∙ e)))
+                      (marking-start (did .asked .known is) (did .asked .leads is) lights (did .asked .lit is) (did .asked .stays) (did .asked .bytes) e (did .lower is (cost ∙ e)))
                   one (no e) =
                       rw (marks, did .same (λ a f. e (sym cost ∙ f)))
-                      (marking-inner (did .asked .leads is) lights (did .asked .lit is) (did .asked .stays) (did .asked .bytes) e)
+                      (marking-inner (did .asked .known is) (did .asked .leads is) lights (did .asked .lit is) (did .asked .stays) (did .asked .bytes) e)
 
     -- ---- all are asked
 
@@ -701,6 +751,13 @@ module _ (t : Tech) (view : View) (spots bounds work₀ : List ℕ) (settled bes
                 so-far .made i (omega arith) below good (sym is) at-e lead;
           }
 
+      -- a mark within the best cost tells the lowest move
+      told₀ : {p : Place} {e : ℕ} → GoodPlace t p → E p ≡ fin e → e + atLeast t bounds p ≤ best → markBy t work p ≡ true
+          → markedLead t work p ≡ lowestLead S E best (markBy t work) p e
+      told₀ {p} good at-e near-by is =
+          let (i, below, at-i) = ended .between .laid .all (placeCode t p) (code-below good) (settled-in good at-e near-by) in
+          so-far .told i (omega arith) below good (sym at-i) at-e is
+
       forward₀ : best < 1099511627775 → Forward S (GoodPlace t) X (atLeast t bounds) E (fin best)
       unfolding bestBy
       forward₀ found =
@@ -717,6 +774,8 @@ module _ (t : Tech) (view : View) (spots bounds work₀ : List ℕ) (settled bes
             low = bounds-low view fine bounding;
             forward = subst (λ (D : Place → Cost). Forward S (GoodPlace t) X (atLeast t bounds) D (fin best)) back (forward₀ found);
             marks = subst (λ (D : Place → Cost). Marks S D best (GoodPlace t) (atLeast t bounds) (markBy t work)) back marks₀;
+            told = λ {p} {e} good at-e near-by is.
+                told₀ good (ap (λ (D : Place → Cost). D p) back ∙ at-e) near-by is ∙ ap (λ (D : Place → Cost). lowestLead S D best (markBy t work) p e) back;
           }
 
       pub marking-lowest : start ≡ lowestMarked t view spots work

@@ -4,10 +4,10 @@
 --     leftAt, costIn      what is left at least from the place with a number, times 7; the cost that a key tells
 --     costs, reachedBy    the cost to each place that has an entry
 --     atLeast             what is left at least from a place
---     markBy              whether a place has a mark
+--     markBy, markedLead, markSlot     whether a place has a mark, the move that it tells, and the slot of such a mark
 --     bestBy              the cost of the cheapest goal found
 --     Searched            what the code asks of its layers
-use Prim.Native.Nat.{ℕ, zero, suc, _+_, _-_, _*_, _/_}
+use Prim.Native.Nat.{ℕ, zero, suc, _+_, _-_, _*_, _/_, _%_}
 use mathlib.Core.Path.{_≡_}
 use mathlib.Core.List.{List}
 use mathlib.Core.Bool.{Bool, cond}
@@ -64,9 +64,17 @@ reachedBy t bounds work p = entryCost (costs t bounds work (placeCode t p))
 unfoldable pub atLeast : Tech → (bounds : List ℕ) → Place → ℕ
 atLeast t bounds p = boundAt (t .grid) bounds (p .vertex) / 8 + 1
 
+-- the slot of a mark that tells a move: no place of the heap has such a slot, and no settled place without a mark
+abbrev pub markSlot : (lead : ℕ) → ℕ
+markSlot lead = 4 * 262142 + lead
+
 -- whether a place has a mark
 unfoldable pub markBy : Tech → (work : List ℕ) → Place → Bool
-markBy t work p = eqb (slotOf (getD work (placeCode t p) 0)) 1048574
+markBy t work p = eqb (slotOf (getD work (placeCode t p) 0) / 4) 262142
+
+-- the move that its mark tells
+unfoldable pub markedLead : Tech → (work : List ℕ) → Place → ℕ
+markedLead t work p = slotOf (getD work (placeCode t p) 0) % 4
 
 -- the cost of the cheapest goal found: 2^40 - 1 is none
 unfoldable pub bestBy : (best : ℕ) → Cost

@@ -1,6 +1,6 @@
 // The moves of cheapest joins: each leads to an unjoined pin at the best cost, or on to a mark at its exact distance.
 ghost use mathlib.Core.Path.{_≡_};
-ghost use Prim.Native.Nat.{ℕ, suc, _≤_, _<_, _^_};
+ghost use Prim.Native.Nat.{ℕ, suc, _%_, _≤_, _<_, _^_};
 ghost use lib.ListN.{length, getD};
 ghost use Rattle.job.specs.Structs.{gridOf};
 ghost use Rattle.rules.specs.Steps.{step, priced};
@@ -8,11 +8,10 @@ ghost use Rattle.rules.specs.Seen.{viewBy};
 ghost use Rattle.rules.specs.Joins.{places};
 ghost use Rattle.rules.specs.Places.{placeCode, GoodPlace};
 ghost use Rattle.rules.specs.Structs.{techBy, placeOf};
-ghost use Rattle.heap.specs.Heaps.{keyOf};
+ghost use Rattle.heap.specs.Heaps.{keyOf, slotOf};
 ghost use Rattle.bounds.specs.Bounds.{SmallBounds};
 ghost use Rattle.front.specs.Fronts.{costs, Searched};
 ghost use Rattle.front.specs.Leads.{leadBy, lowestBy, OnlyMoves};
-use crate::moves::ALL_MOVES;
 use crate::moves::has_move;
 use crate::places::code_of;
 use bounds::bound::bound_at;
@@ -24,8 +23,17 @@ use rules::step::Stepped;
 use rules::step::step;
 use tree::UNJOINED;
 
-// The slot of a place with a mark: no place of the heap has this number, and no settled place without a mark.
-pub const MARKED: u64 = 1048574;
+// A quarter of the slots of places with a mark: the rest is the lowest move that leads on. No place of the heap has such a number, and no settled
+// place without a mark.
+pub const MARKED: u64 = 262142;
+
+// The move that the mark of a place tells.
+pub fn lead_at(work: &[u64], code: usize) -> usize
+    requires { ⌜ code < length (now work) ⌝ }
+    ensures { λ r. ⌜ r ≡ slotOf (getD (now (work .entry)) code 0) % 4 ⌝ }
+{
+    (work[code] % 4) as usize
+}
 
 // Whether a move leads so, from a place at a distance.
 fn leads(
@@ -56,11 +64,11 @@ fn leads(
     }
     let code = code_of(largest, next);
     let word = work[code];
-    if word % SLOTS != MARKED {
+    if word % SLOTS / 4 != MARKED {
         return false;
     }
     let left = bound_at(bounds, tech.grid, vertex);
-    word == (8 * cost + left + 1) * SLOTS + MARKED
+    word / 4 == (8 * cost + left + 1) * (SLOTS / 4) + MARKED
 }
 
 // The lowest move of a byte that does, from a place that the search has come to; 4 where none does. No other move may lead so.
@@ -104,34 +112,4 @@ pub fn lowest_among(
         }
     }
     4
-}
-
-// The lowest of all four.
-pub fn lowest_lead(
-    tech: Tech,
-    seen: &[u8; 16384],
-    spots: &[u8; 16384],
-    bounds: &[u64; 528],
-    largest: usize,
-    work: &[u64],
-    place: Place,
-    best: u64,
-) -> usize
-    requires { ⌜ (Searched tech largest) × (GoodPlace (techBy tech) (placeOf place)) × (places (techBy tech) ≤ length (now work))
-        × (0 < costs (techBy tech) (now bounds) (now work) (placeCode (techBy tech) (placeOf place)))
-        × (keyOf (getD (now work) (placeCode (techBy tech) (placeOf place)) 0) ≤ 2 ^ 40) × (SmallBounds (now bounds)) ⌝ }
-    ensures { λ r. ⌜ ((e : ℕ) → costs (techBy tech) (now (bounds .entry)) (now (work .entry)) (placeCode (techBy tech) (placeOf place)) ≡ suc e
-        → r ≡ lowestBy (techBy tech) (viewBy (gridOf (tech .grid)) (now (seen .entry))) (now (spots .entry)) (now (bounds .entry)) (now (work .entry)) best (placeOf place) e) ⌝ }
-{
-    lowest_among(
-        tech,
-        seen,
-        spots,
-        bounds,
-        largest,
-        work,
-        place,
-        ALL_MOVES,
-        best,
-    )
 }

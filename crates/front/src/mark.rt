@@ -13,7 +13,7 @@ ghost use Rattle.rules.specs.Joins.{places};
 ghost use Rattle.rules.specs.Places.{placeAt};
 ghost use Rattle.rules.specs.Structs.{techBy};
 ghost use Rattle.bounds.specs.Bounds.{Bounding, SmallBounds};
-ghost use Rattle.front.specs.Fronts.{costs, Searched};
+ghost use Rattle.front.specs.Fronts.{costs, markSlot, Searched};
 ghost use Rattle.front.specs.Lists.{Laid};
 ghost use Rattle.front.specs.Spreads.{Ended};
 ghost use Rattle.front.specs.Leads.{OnlyMoves, Answered};
@@ -56,12 +56,12 @@ fn light(near: &mut [u8; 16384], grid: Grid, v: usize)
     }
 }
 
-// Puts a mark on a settled place; its key stays.
-fn put_mark(work: &mut [u64], item: usize)
-    requires { ⌜ (item < length (now work)) × (keyOf (getD (now work) item 0) ≤ 2 ^ 40) ⌝ }
-    ensures { λ _. ⌜ now (work .exit) ≡ set (now (work .entry)) item (wordOf (keyOf (getD (now (work .entry)) item 0)) 1048574) ⌝ }
+// Puts a mark that tells a move on a settled place; its key stays.
+fn put_mark(work: &mut [u64], item: usize, lead: usize)
+    requires { ⌜ (item < length (now work)) × (keyOf (getD (now work) item 0) ≤ 2 ^ 40) × (lead < 4) ⌝ }
+    ensures { λ _. ⌜ now (work .exit) ≡ set (now (work .entry)) item (wordOf (keyOf (getD (now (work .entry)) item 0)) (markSlot lead)) ⌝ }
 {
-    work[item] = work[item] / SLOTS * SLOTS + MARKED;
+    work[item] = work[item] / SLOTS * SLOTS + (4 * MARKED + lead as u64);
 }
 
 // The lower start: a place of the tree costs nothing.
@@ -111,7 +111,7 @@ fn mark_place(
     if 4 <= lead {
         return start;
     }
-    put_mark(work, item);
+    put_mark(work, item, lead);
     light(near, tech.grid, place.vertex);
     lower_start(tech, bounds, largest, work, item, start)
 }

@@ -4,9 +4,6 @@ ghost use Prim.Native.Nat.{_/_, _%_};
 ghost use lib.Dec.{eqb};
 ghost use Rattle.front.specs.Bits.{bitOf, withMove};
 
-// All four moves.
-pub const ALL_MOVES: u8 = 15;
-
 // The bit of a move.
 fn bit_of(number: usize) -> u8
     ensures { λ r. ⌜ r ≡ bitOf number ⌝ }

@@ -1,4 +1,5 @@
 -- Following the marks of a forward search is following a table of the costs to go.
+--     same-test                               two tests that pass together are one
 --     marks-none, marks-goal, marks-step      nothing is followed with no move left and at a goal; else the lowest move that leads on, then the rest
 --     lead-keeps, lowest-lead                 on a cheapest join a move leads on just where it keeps the table's cost; so the lowest of each is one
 --     marks-follow                            so the marks are followed as the table is
@@ -18,7 +19,7 @@ use Rattle.paths.proofs.OnBest.{same-fin, keeps-leads, leads-keeps}
 use Rattle.paths.proofs.Marks.{leads-map, mark-best, best-mark, test-leads, leads-test}
 
 -- two tests that pass together are one
-same-test : (a b : Bool) → (a ≡ true → b ≡ true) → (b ≡ true → a ≡ true) → a ≡ b
+pub same-test : (a b : Bool) → (a ≡ true → b ≡ true) → (b ≡ true → a ≡ true) → a ≡ b
 same-test true b there back = sym (there refl)
 same-test false true there back = back refl
 same-test false false there back = refl

@@ -1,12 +1,12 @@
 -- The move that is followed from a place of a cheapest join, in the code's words.
 --     goes-on, ends-here          whether the route goes on, as the code asks
---     lead-asked                  what the lowest move that leads on is asked for
+--     lead-read                   the move that a mark tells, as the code reads it
 --     followed-made, followed-legal     what it made while the moves are counted; it is legal
-use Prim.Native.Nat.{ℕ, suc, _+_, _^_, _≤_, _<_}
-use mathlib.Core.Path.{_≡_, sym}
+use Prim.Native.Nat.{ℕ, _+_, _%_}
+use mathlib.Core.Path.{_≡_, refl, sym, _∙_}
 use mathlib.Core.List.{List}
 use mathlib.Core.Bool.{Bool, true, false, not, true≢false}
-use lib.ListN.{length, getD}
+use lib.ListN.{getD}
 use lib.Dec.{eqb}
 use Rattle.job.specs.Structs.{gridOf}
 use Rattle.paths.specs.Distances.{fin, lowestKeeping}
@@ -14,22 +14,19 @@ use Rattle.paths.specs.Marks.{onBest}
 use Rattle.rules.specs.Views.{View}
 use Rattle.rules.specs.Steps.{step}
 use Rattle.rules.specs.Seen.{viewBy}
-use Rattle.rules.specs.Joins.{places}
-use Rattle.rules.specs.Places.{placeCode, GoodPlace}
+use Rattle.rules.specs.Places.{codeBy, GoodPlace}
 use Rattle.rules.specs.Structs.{techBy, placeOf, IsStepped}
 use Rattle.rules.specs.declared.price.Tech.{Tech as TechStruct}
 use Rattle.rules.specs.declared.step.Place.{Place as PlaceStruct}
 use Rattle.rules.specs.declared.step.Made.{Made as MadeStruct}
 use Rattle.rules.specs.declared.step.Stepped.{Stepped as SteppedEnum}
 use Rattle.rules.specs.declared.step.Stepped.the-variants.{Illegal, Legal}
-use Rattle.heap.specs.Heaps.{keyOf}
-use Rattle.bounds.specs.Bounds.{SmallBounds}
-use Rattle.front.specs.Fronts.{systemBy, costs, Searched}
-use Rattle.front.specs.Leads.{lowestBy}
-use Rattle.front.proofs.Asking.{led, led-not}
+use Rattle.heap.specs.Heaps.{slotOf}
+use Rattle.front.specs.Fronts.{systemBy, markedLead, Searched}
+use Rattle.front.proofs.Asking.{code-made, led, led-not}
 use Rattle.front.specs.Charts.{Charted, lowestMarked}
 use Rattle.search.specs.Traces.{toGo}
-use Rattle.search.proofs.Tracing.{OnJoin, on-key, on-lowest, trace-made, trace-legal, Counting, counting-on}
+use Rattle.search.proofs.Tracing.{OnJoin, on-lowest, trace-made, trace-legal, Counting, counting-on}
 
 -- the route goes on
 pub goes-on : (r : Bool) {b : Bool} → not r ≡ true → r ≡ b → b ≡ false
@@ -47,20 +44,15 @@ module _ {tech : TechStruct} {largest : ℕ} (held : Searched tech largest) (see
   abbrev view : View
   view = viewBy (gridOf (tech .grid)) seen
 
-  -- the cost that the place's entry tells, and 1
-  abbrev told : ℕ
-  told = costs (techBy tech) bounds work (placeCode (techBy tech) (placeOf place))
-
-  -- what the lowest move that leads on is asked for
-  pub lead-asked : SmallBounds bounds → GoodPlace (techBy tech) (placeOf place) → OnJoin (techBy tech) view spots bounds work best (placeOf place)
-      → (Searched tech largest) × (GoodPlace (techBy tech) (placeOf place)) × (places (techBy tech) ≤ length work) × (0 < told)
-      × (keyOf (getD work (placeCode (techBy tech) (placeOf place)) 0) ≤ 2 ^ 40) × (SmallBounds bounds)
-  lead-asked few on joins =
-      let (some, small) = on-key (techBy tech) view spots charted (held .fits .good) on joins in (held, on, charted .room, some, small, few)
+  -- the move that the mark of the place tells, as the code reads it
+  pub lead-read : GoodPlace (techBy tech) (placeOf place) → {code number : ℕ} → code ≡ codeBy largest (placeOf place)
+      → number ≡ slotOf (getD work code 0) % 4 → number ≡ markedLead (techBy tech) work (placeOf place)
+  unfolding markedLead
+  lead-read on made is = rw (is, code-made held place on made) refl
 
   module _ {start count : ℕ} (so-far : Counting (techBy tech) view spots bounds work best start (placeOf place) count)
       (goes : eqb (getD spots (place .vertex) 0) 2 ≡ false) {number : ℕ}
-      (low : (e : ℕ) → told ≡ suc e → number ≡ lowestBy (techBy tech) view spots bounds work best (placeOf place) e) {r : SteppedEnum}
+      (told : number ≡ markedLead (techBy tech) work (placeOf place)) {r : SteppedEnum}
       (stepped : IsStepped (gridOf (tech .grid)) view (place .vertex) r (step (techBy tech) view (placeOf place) number)) where
     -- a place of a cheapest join has a cost to go
     cost-here : (c : ℕ) × (toGo (techBy tech) view spots (placeOf place) ≡ fin c)
@@ -71,7 +63,7 @@ module _ {tech : TechStruct} {largest : ℕ} (held : Searched tech largest) (see
 
     -- its number
     lowest : number ≡ lowestKeeping (systemBy (techBy tech) view spots) (toGo (techBy tech) view spots) (placeOf place) (cost-here .0)
-    lowest = on-lowest (techBy tech) view spots charted (held .fits .good) (so-far .good) (so-far .joins goes) (cost-here .1) low
+    lowest = told ∙ on-lowest (techBy tech) view spots charted (held .fits .good) (so-far .good) (so-far .joins goes) (cost-here .1)
 
     -- one more is counted
     pub followed-made : {made : MadeStruct} → start ≡ lowestMarked (techBy tech) view spots work → r ≡ Legal made

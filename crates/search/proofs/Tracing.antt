@@ -4,36 +4,33 @@
 --     trace-legal                               it is not blocked
 --     route-short                               a route has fewer than 2^20 moves
 --     OnJoin, start-on                          a place of a cheapest join, as a search found it; the lowest start with a mark is one
---     on-key, on-lowest, on-next                there the lowest move that leads on is the one that is followed, and it leads to a goal or on to such a place
+--     on-lowest, on-next                        there the move that its mark tells is the one that is followed, and it leads to a goal or on to such a place
 --     Counting, counting-begun, -room, -on, -done      the moves so far, then the rest, are the route
 use Prim.Native.Nat.{ℕ, suc, _+_, _-_, _^_, _≤_, _<_}
 use mathlib.Core.Path.{_≡_, sym, ap, _∙_}
 use mathlib.Core.List.{List, _∷_}
 use mathlib.Core.Bool.{true, false, true≢false}
 use native.Mathlib.Omega.{arith}
-use lib.ListN.{length, getD}
+use lib.ListN.{length}
 use Rattle.job.specs.Grid.{vertices}
 use Rattle.paths.specs.Systems.{blocked, to, System, Legal}
 use Rattle.paths.specs.Distances.{Cost, fin, Table, keeps, lowestKeeping, follow}
 use Rattle.paths.specs.Marks.{OnBest, onBest, Leads, ends, goesOn}
 use Rattle.paths.proofs.Following.{follow-goal, follow-step, cost-keeps, kept}
-use Rattle.paths.proofs.Cheapest.{dist-table, follow-short, keeps-leads, lowest-lead}
+use Rattle.paths.proofs.Cheapest.{dist-table, follow-short, keeps-leads, best-mark, lowest-lead}
 use Rattle.paths.proofs.JoinMarks.{marked-on}
-use Rattle.paths.proofs.OnBest.{same-fin}
+use Rattle.paths.proofs.OnBest.{same-fin, near-best}
 use Rattle.paths.proofs.Steps.{not-blocked, one-price, one-next}
 use Rattle.rules.specs.Views.{View}
 use Rattle.rules.specs.Segments.{Place}
 use Rattle.rules.specs.Prices.{Tech}
 use Rattle.rules.specs.Walks.{startAt}
 use Rattle.rules.specs.Joins.{places}
-use Rattle.rules.specs.Places.{placeCode, GoodPlace, GoodTech}
-use Rattle.rules.proofs.Places.{code-below, start-good, places-small}
-use Rattle.heap.specs.Heaps.{keyOf}
-use Rattle.front.specs.Fronts.{systemBy, costs, reachedBy}
-use Rattle.front.specs.Leads.{lowestBy}
+use Rattle.rules.specs.Places.{GoodPlace, GoodTech}
+use Rattle.rules.proofs.Places.{start-good, places-small}
+use Rattle.front.specs.Fronts.{systemBy, reachedBy, markedLead}
 use Rattle.front.specs.Charts.{Charted, lowestMarked}
 use Rattle.front.proofs.Lawful.{lawful-by, starts-good}
-use Rattle.front.proofs.Spreading.{cost-key}
 use Rattle.search.specs.Traces.{toGo, routeBy}
 
 module _ (t : Tech) (view : View) (spots : List ℕ) where
@@ -119,23 +116,14 @@ module _ (t : Tech) (view : View) (spots : List ℕ) where
         let (below, is, on) = marked-on (lawful-by view spots fine) (table-by fine) (starts-good t view spots) (charted .low) (charted .forward) (charted .marks) in
         (below, on)
 
-    -- its entry tells the cost to it
-    on-entry : {p : Place} → OnJoin bounds work best p → (e : ℕ) × (costs t bounds work (placeCode t p) ≡ suc e)
-    unfolding reachedBy
-    on-entry {p} (onBest {e = e} g at left sum) = (e, cost-key (costs t bounds work (placeCode t p)) at)
-
     module _ {p : Place} (on : GoodPlace t p) where
-      -- its entry tells a cost, and its key is at most 2^40
-      pub on-key : OnJoin bounds work best p → (0 < costs t bounds work (placeCode t p)) × (keyOf (getD work (placeCode t p) 0) ≤ 2 ^ 40)
-      on-key is = let (e, key) = on-entry is in (omega (arith, key), charted .small (placeCode t p) (code-below on))
-
-      -- the lowest move that leads on is the one that is followed
-      pub on-lowest : {number c : ℕ} → OnJoin bounds work best p → D p ≡ fin c
-          → ((e : ℕ) → costs t bounds work (placeCode t p) ≡ suc e → number ≡ lowestBy t view spots bounds work best p e)
-          → number ≡ lowestKeeping S D p c
-      unfolding reachedBy
-      on-lowest (onBest {e = e} {d = d} g at left sum) cost low =
-          low e (cost-key (costs t bounds work (placeCode t p)) at)
+      -- the move that its mark tells is the one that is followed
+      pub on-lowest : {c : ℕ} → OnJoin bounds work best p → D p ≡ fin c → markedLead t work p ≡ lowestKeeping S D p c
+      on-lowest {c} (onBest {e = e} {d = d} g at left sum) cost =
+          let joins : OnJoin bounds work best p = onBest g at left sum in
+          let near = near-best (lawful-by view spots fine) (table-by fine) (starts-good t view spots) (charted .low) (charted .forward) on at joins in
+          let marked = best-mark (lawful-by view spots fine) (table-by fine) (starts-good t view spots) (charted .low) (charted .forward) (charted .marks) on joins in
+          charted .told on at near marked
           ∙ lowest-lead (lawful-by view spots fine) (table-by fine) (starts-good t view spots) (charted .low) (charted .forward) (charted .marks) on g at left sum
           ∙ ap (lowestKeeping S D p) (same-fin left cost)
 

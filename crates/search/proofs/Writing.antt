@@ -1,9 +1,8 @@
 -- The turns of writing the route.
---     SameGoals, goals-kept, lowest-goals     bytes that tell the same goals; the same move is then the lowest that leads on
 --     follow-no-goal                          where something is followed there is no goal
 --     Writing                                 what has been written, and that the rest gives the whole
 --     writing-begun                           before the first move
---     writing-joins, writing-number           the walk is on a cheapest join; the number of the next move
+--     writing-number                          the number of the next move
 --     writing-legal                           the next move is legal
 --     writing-fits, writing-on                what is known of it, and after it
 --     writing-done                            after the last
@@ -20,7 +19,6 @@ use Rattle.job.specs.Packing.{concatBits}
 use Rattle.job.specs.Structs.{gridOf}
 use Rattle.paths.specs.Systems.{blocked, to, System}
 use Rattle.paths.specs.Distances.{Cost, lowestKeeping, follow}
-use Rattle.paths.specs.Marks.{lowestLead}
 use Rattle.paths.proofs.Following.{follow-goal, Onward, follow-onward}
 use Rattle.rules.specs.Views.{View}
 use Rattle.rules.specs.Segments.{Place}
@@ -28,7 +26,7 @@ use Rattle.rules.specs.Prices.{Tech}
 use Rattle.rules.specs.Steps.{Made, legal, step, priced}
 use Rattle.rules.specs.Joins.{places}
 use Rattle.rules.specs.Seen.{viewBy}
-use Rattle.rules.specs.Places.{placeCode, GoodPlace}
+use Rattle.rules.specs.Places.{GoodPlace}
 use Rattle.rules.specs.Structs.{directionOf, TechFits, techBy, placeOf, steppedBy, madeBy, Whole, WholeStep, IsStepped}
 use Rattle.rules.specs.declared.price.Tech.{Tech as TechStruct}
 use Rattle.rules.specs.declared.step.Made.{Made as MadeStruct}
@@ -42,30 +40,10 @@ use Rattle.walker.specs.declared.Walk.{Walk}
 use Rattle.walker.proofs.Landing.{MoveFits, made-fits, made-entered, MovesMade, made-none, made-one, made-all}
 use Rattle.walker.proofs.Entering.{enter-step}
 use Rattle.walker.proofs.Nets.{empty}
-use Rattle.front.specs.Fronts.{systemBy, costs, reachedBy, markBy}
-use Rattle.front.specs.Leads.{lowestBy}
+use Rattle.front.specs.Fronts.{systemBy, markedLead}
 use Rattle.front.specs.Charts.{Charted, lowestMarked}
 use Rattle.search.specs.Traces.{toGo, routeBy}
 use Rattle.search.proofs.Tracing.{OnJoin, start-on, on-lowest, on-next}
-
--- two lists of bytes tell the same goals
-abbrev pub SameGoals : (spots others : List ℕ) → Type 0
-SameGoals spots others = (v : ℕ) → eqb (getD spots v 0) 2 ≡ eqb (getD others v 0) 2
-
--- they still do where a vertex that is no goal enters the tree
-goals-kept : (spots : List ℕ) (v w : ℕ) → eqb (getD spots v 0) 2 ≡ false → eqb (getD (set spots v 1) w 0) 2 ≡ eqb (getD spots w 0) 2
-goals-kept [] v w e = refl
-goals-kept (x ∷ xs) zero zero e = sym e
-goals-kept (x ∷ xs) zero (suc w) e = refl
-goals-kept (x ∷ xs) (suc v) zero e = refl
-goals-kept (x ∷ xs) (suc v) (suc w) e = goals-kept xs v w e
-
--- then the same move is the lowest that leads on
-lowest-goals : (t : Tech) (view : View) (bounds work : List ℕ) (best : ℕ) (p : Place) (e : ℕ) (spots others : List ℕ) → SameGoals spots others
-    → lowestBy t view spots bounds work best p e ≡ lowestBy t view others bounds work best p e
-lowest-goals t view bounds work best p e spots others same =
-    ap (λ (goal : Place → Bool). lowestLead (record { Place = Place; moves = 4; step = λ q m. priced (step t view q m); goal = goal }) (reachedBy t bounds work)
-    best (markBy t work) p e) (fun-ext (λ q. same (q .vertex)))
 
 -- where something is followed there is no goal
 follow-no-goal : (S : System) (D : S .Place → Cost) (k : ℕ) (p : S .Place) → 0 < length (follow S D k p) → S .goal p ≡ false
@@ -96,14 +74,13 @@ module _ (tech : TechStruct) (seen bounds work : List ℕ) (net from best count 
   route = routeBy (techBy tech) view (first .spots) start
 
   -- so many moves are left: the rest from where the walk has led gives the whole, in the arrays and in the plan; until the last is made the walk
-  -- is on a cheapest join, and has entered no unjoined pin
+  -- is on a cheapest join
   pub record Writing (spots codes plan : List ℕ) (walk : Walk) (at left : ℕ) : Type 0 where
     pub gone : Gone
     pub fuel : ℕ
     pub made : MovesMade tech (count - left) walk gone
     pub rest : length (moves-from fuel (gone .place)) ≡ left
     pub joins : 0 < left → OnJoin (techBy tech) view (first .spots) bounds work best (gone .place)
-    pub goals : 0 < left → SameGoals spots (first .spots)
     pub same : enterAll (techBy tech) view net route (goneAt start) first
         ≡ enterAll (techBy tech) view net (moves-from fuel (gone .place)) gone (record { spots = spots; codes = codes })
     pub bits : putBits found from (concatBits (fieldBits 2) route) ≡ putBits plan at (concatBits (fieldBits 2) (moves-from fuel (gone .place)))
@@ -125,7 +102,6 @@ module _ (tech : TechStruct) (seen bounds work : List ℕ) (net from best count 
         made = rw (begun, none) (made-none tech start (rw lowest (on .0)));
         rest = sym counted;
         joins = λ some. rw lowest (on .1);
-        goals = λ some v. refl;
         same = refl;
         bits = refl;
         next = refl;
@@ -147,17 +123,11 @@ module _ (tech : TechStruct) (seen bounds work : List ℕ) (net from best count 
     place-good : GoodPlace (techBy tech) (so-far .gone .place)
     place-good = rw (← so-far .made .is .place) (so-far .made .place)
 
-    -- and on a cheapest join
-    pub writing-joins : OnJoin (techBy tech) view (first .spots) bounds work best (placeOf (walk .place))
-    writing-joins = rw (so-far .made .is .place) (so-far .joins some)
-
-    -- its number, in the code's words: the bytes still tell the goals
+    -- its number: the mark tells it
     pub writing-number : TechFits tech → Charted (techBy tech) view (first .spots) bounds work best → {number : ℕ}
-        → ((e : ℕ) → costs (techBy tech) bounds work (placeCode (techBy tech) (placeOf (walk .place))) ≡ suc e
-        → number ≡ lowestBy (techBy tech) view spots bounds work best (placeOf (walk .place)) e) → Lowest number
-    writing-number fits charted {number} low =
-        on-lowest (techBy tech) view (first .spots) charted (fits .good) place-good (so-far .joins some) (onward .entry) (λ e is.
-        (rw (so-far .made .is .place) at low) e is ∙ lowest-goals (techBy tech) view bounds work best (so-far .gone .place) e spots (first .spots) (so-far .goals some))
+        → number ≡ markedLead (techBy tech) work (placeOf (walk .place)) → Lowest number
+    writing-number fits charted told =
+        rw (so-far .made .is .place) at told ∙ on-lowest (techBy tech) view (first .spots) charted (fits .good) place-good (so-far .joins some) (onward .entry)
 
     module _ {number : ℕ} (numbered : Lowest number) {r : SteppedEnum}
         (stepped : IsStepped (gridOf (tech .grid)) view (walk .place .vertex) r (step (techBy tech) view (placeOf (walk .place)) number)) where
@@ -227,7 +197,6 @@ module _ (tech : TechStruct) (seen bounds work : List ℕ) (net from best count 
               rest = omega (arith, so-far .rest, ap (λ (ms : List ℕ). length ms) is-first);
               joins = λ yet. on-next (techBy tech) view (first .spots) charted (fits .good) place-good (so-far .joins some) (onward .entry)
                   (rw is-next at (onward .leads)) (no-goal yet);
-              goals = λ yet v. rw marked (goals-kept spots (m .next .vertex) v (so-far .goals some (m .next .vertex) ∙ no-goal yet)) ∙ so-far .goals some v;
               same =
                   so-far .same ∙ ap (λ (ms : List ℕ). enterAll (techBy tech) view net ms (so-far .gone) (record { spots = spots; codes = codes })) is-first
                   ∙ enter-step (techBy tech) view net number rest (so-far .gone) _ here

@@ -1,6 +1,7 @@
 // The join that a search found: written into the plan, and walked.
 ghost use mathlib.Core.Path.{_≡_};
-ghost use Prim.Native.Nat.{_+_, _<_, _≤_, _^_};
+ghost use mathlib.Core.List.{List};
+ghost use Prim.Native.Nat.{ℕ, _+_, _<_, _≤_, _^_};
 ghost use lib.ListN.{length};
 ghost use Rattle.bits.specs.Bits.{putBits};
 ghost use Rattle.job.specs.Grid.{vertices};
@@ -8,7 +9,6 @@ ghost use Rattle.job.specs.Structs.{gridOf};
 ghost use Rattle.rules.specs.Seen.{viewBy};
 ghost use Rattle.rules.specs.Structs.{techBy};
 ghost use Rattle.plan.specs.Layout.{recordBits};
-ghost use Rattle.bounds.specs.Bounds.{SmallBounds};
 ghost use Rattle.front.specs.Fronts.{Searched};
 ghost use Rattle.front.specs.Charts.{Charted, lowestMarked};
 ghost use Rattle.search.specs.Traces.{joinBySpots};
@@ -32,7 +32,6 @@ pub fn write_join(
     seen: &[u8; 16384],
     spots: &mut [u8; 16384],
     map: &mut [u16],
-    bounds: &[u64; 528],
     largest: usize,
     work: &[u64],
     plan: &mut [u8],
@@ -41,9 +40,10 @@ pub fn write_join(
     start: usize,
     best: u64,
 ) -> Joined
-    requires { ⌜ (Searched tech largest) × (Charted (techBy tech) (viewBy (gridOf (tech .grid)) (now seen)) (now spots) (now bounds) (now work) best)
+    requires { ⌜ (Searched tech largest)
+        × ((bounds : List ℕ) × (Charted (techBy tech) (viewBy (gridOf (tech .grid)) (now seen)) (now spots) bounds (now work) best))
         × (start ≡ lowestMarked (techBy tech) (viewBy (gridOf (tech .grid)) (now seen)) (now spots) (now work))
-        × (vertices (gridOf (tech .grid)) ≤ length (now map)) × (at < 2 ^ 39) × (SmallBounds (now bounds)) ⌝ }
+        × (vertices (gridOf (tech .grid)) ≤ length (now map)) × (at < 2 ^ 39) ⌝ }
     ensures answer { λ r. ⌜ IsJoined (techBy tech) (viewBy (gridOf (tech .grid)) (now (seen .entry))) net at
         (record { spots = now (spots .entry); codes = now (map .entry) }) r
         (joinBySpots (techBy tech) (viewBy (gridOf (tech .grid)) (now (seen .entry))) (now (spots .entry))) ⌝ }
@@ -57,21 +57,19 @@ pub fn write_join(
     ensures plan { λ _. ⌜ now (plan .exit) ≡ putBits (now (plan .entry)) at (recordBits (gridOf (tech .grid))
         (joinBySpots (techBy tech) (viewBy (gridOf (tech .grid)) (now (seen .entry))) (now (spots .entry)))) ⌝ }
 {
-    let count = count_moves(tech, seen, spots, bounds, largest, work, start, best);
+    let count = count_moves(tech, seen, spots, largest, work, start);
     put_start(plan, tech.grid, at, start, count);
     let walk = write_moves(
         tech,
         seen,
         spots,
         map,
-        bounds,
         largest,
         work,
         plan,
         net,
         at + 40,
         start,
-        best,
         count,
     );
     put_cost(plan, at + 40 + 2 * count, best as usize);

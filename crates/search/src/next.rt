@@ -90,7 +90,6 @@ fn join_found(
         seen,
         spots,
         map,
-        bounds,
         largest,
         work,
         plan,

@@ -1,16 +1,17 @@
-// The route of the join that a search found: at each place the lowest move that leads on, until an unjoined pin.
+// The route of the join that a search found: at each place the move that its mark tells, the lowest that leads on, until an unjoined pin.
 ghost use mathlib.Core.Path.{_≡_};
-ghost use Prim.Native.Nat.{_<_};
+ghost use mathlib.Core.List.{List};
+ghost use Prim.Native.Nat.{ℕ, _<_};
 ghost use lib.ListN.{length, getD};
 ghost use lib.Dec.{eqb};
 ghost use Rattle.job.specs.Structs.{gridOf};
 ghost use Rattle.rules.specs.Seen.{viewBy};
 ghost use Rattle.rules.specs.Structs.{techBy};
-ghost use Rattle.bounds.specs.Bounds.{SmallBounds};
 ghost use Rattle.front.specs.Fronts.{Searched};
 ghost use Rattle.front.specs.Charts.{Charted, lowestMarked};
 ghost use Rattle.search.specs.Traces.{routeBy};
-use front::lead::lowest_lead;
+use front::lead::lead_at;
+use front::places::code_of;
 use rules::price::Tech;
 use rules::segment::Segment;
 use rules::step::Place;
@@ -31,14 +32,13 @@ pub fn count_moves(
     tech: Tech,
     seen: &[u8; 16384],
     spots: &[u8; 16384],
-    bounds: &[u64; 528],
     largest: usize,
     work: &[u64],
     start: usize,
-    best: u64,
 ) -> usize
-    requires { ⌜ (Searched tech largest) × (Charted (techBy tech) (viewBy (gridOf (tech .grid)) (now seen)) (now spots) (now bounds) (now work) best)
-        × (start ≡ lowestMarked (techBy tech) (viewBy (gridOf (tech .grid)) (now seen)) (now spots) (now work)) × (SmallBounds (now bounds)) ⌝ }
+    requires { ⌜ (Searched tech largest)
+        × ((bounds : List ℕ) × (best : ℕ) × (Charted (techBy tech) (viewBy (gridOf (tech .grid)) (now seen)) (now spots) bounds (now work) best))
+        × (start ≡ lowestMarked (techBy tech) (viewBy (gridOf (tech .grid)) (now seen)) (now spots) (now work)) ⌝ }
     ensures { λ r. ⌜ r ≡ length (routeBy (techBy tech) (viewBy (gridOf (tech .grid)) (now (seen .entry))) (now (spots .entry)) start) ⌝ }
 {
     let mut place = Place {
@@ -47,7 +47,7 @@ pub fn count_moves(
     };
     let mut count = 0;
     while !ends_at(spots, place.vertex) {
-        let number = lowest_lead(tech, seen, spots, bounds, largest, work, place, best);
+        let number = lead_at(work, code_of(largest, place));
         let Stepped::Legal(made) = step(tech, seen, place, number) else {
             return count;
         };

@@ -1,6 +1,7 @@
 // The route of the join that a search found, written into the plan and walked: what it enters becomes metal and tree.
 ghost use mathlib.Core.Path.{_≡_};
-ghost use Prim.Native.Nat.{_<_, _≤_, _^_};
+ghost use mathlib.Core.List.{List};
+ghost use Prim.Native.Nat.{ℕ, _<_, _≤_, _^_};
 ghost use lib.ListN.{length};
 ghost use Rattle.bits.specs.Bits.{fieldBits, putBits};
 ghost use Rattle.job.specs.Grid.{vertices};
@@ -10,12 +11,12 @@ ghost use Rattle.rules.specs.Seen.{viewBy};
 ghost use Rattle.rules.specs.Structs.{techBy};
 ghost use Rattle.walker.specs.Entering.{goneAt, enterAll, leftIn};
 ghost use Rattle.walker.specs.Structs.{WalkFits, IsEntered};
-ghost use Rattle.bounds.specs.Bounds.{SmallBounds};
 ghost use Rattle.front.specs.Fronts.{Searched};
 ghost use Rattle.front.specs.Charts.{Charted, lowestMarked};
 ghost use Rattle.search.specs.Traces.{routeBy};
 use bits::Cursor;
-use front::lead::lowest_lead;
+use front::lead::lead_at;
+use front::places::code_of;
 use rules::price::Tech;
 use rules::step::Stepped;
 use rules::step::step;
@@ -30,20 +31,19 @@ pub fn write_moves(
     seen: &[u8; 16384],
     spots: &mut [u8; 16384],
     map: &mut [u16],
-    bounds: &[u64; 528],
     largest: usize,
     work: &[u64],
     plan: &mut [u8],
     net: u16,
     from: usize,
     start: usize,
-    best: u64,
     count: usize,
 ) -> Walk
-    requires { ⌜ (Searched tech largest) × (Charted (techBy tech) (viewBy (gridOf (tech .grid)) (now seen)) (now spots) (now bounds) (now work) best)
+    requires { ⌜ (Searched tech largest)
+        × ((bounds : List ℕ) × (best : ℕ) × (Charted (techBy tech) (viewBy (gridOf (tech .grid)) (now seen)) (now spots) bounds (now work) best))
         × (start ≡ lowestMarked (techBy tech) (viewBy (gridOf (tech .grid)) (now seen)) (now spots) (now work))
         × (vertices (gridOf (tech .grid)) ≤ length (now map)) × (from < 2 ^ 40) × (count < 2 ^ 20)
-        × (count ≡ length (routeBy (techBy tech) (viewBy (gridOf (tech .grid)) (now seen)) (now spots) start)) × (SmallBounds (now bounds)) ⌝ }
+        × (count ≡ length (routeBy (techBy tech) (viewBy (gridOf (tech .grid)) (now seen)) (now spots) start)) ⌝ }
     ensures walk { λ r. ⌜ IsEntered r (enterAll (techBy tech) (viewBy (gridOf (tech .grid)) (now (seen .entry))) net
         (routeBy (techBy tech) (viewBy (gridOf (tech .grid)) (now (seen .entry))) (now (spots .entry)) start) (goneAt start)
         (record { spots = now (spots .entry); codes = now (map .entry) })) ⌝ }
@@ -64,7 +64,7 @@ pub fn write_moves(
     let mut left = count;
     while 0 < left {
         let place = walk.place;
-        let number = lowest_lead(tech, seen, spots, bounds, largest, work, place, best);
+        let number = lead_at(work, code_of(largest, place));
         let Stepped::Legal(made) = step(tech, seen, place, number) else {
             return walk;
         };

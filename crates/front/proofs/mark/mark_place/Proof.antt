@@ -34,7 +34,7 @@ returns c =
     answered-not (asked-not (pre .3) (λ e is. omega (arith, told e is, (c .if1) .taken)))
 
 put-mark-requires : tie.Need-put-mark-requires
-put-mark-requires c κs = (omega (arith, (c .before .before .before .before .before .before .pre) .0 .1, (c .before .before .before .before .before .before .pre) .0 .2), (c .before .before .before .before .before .before .pre) .0 .5)
+put-mark-requires c κs = (omega (arith, (c .before .before .before .before .before .before .pre) .0 .1, (c .before .before .before .before .before .before .pre) .0 .2), (c .before .before .before .before .before .before .pre) .0 .5, (c .before .if1) .left)
 
 light-requires : tie.Need-light-requires
 unfolding techBy
@@ -55,7 +55,7 @@ returns-2 c =
     let vertex = ap (λ (p : Place). p .vertex) ((c .before .before .before .before .before .before .before .before .before .before .before .place-of) .ensures) in
     let lit = (c .before .before .light) .ensures in
     answered-marked
-    (asked-marked (λ e is. omega (arith, told e is, (c .before .before .before .before .before .before .before .before .if1) .left)) ((c .before .before .before .before .before .before .put-mark) .ensures) (rw vertex at (lit .0)) (lit .1 .0) (lit .1 .1))
+    (asked-marked (omega (arith, (c .before .before .before .before .before .before .before .before .if1) .left)) told ((c .before .before .before .before .before .before .put-mark) .ensures) (rw vertex at (lit .0)) (lit .1 .0) (lit .1 .1))
     ((c .lower-start) .ensures .0) ((c .lower-start) .ensures .1)
 
 pub mark-place-spec : {M : Type 1} → statement M

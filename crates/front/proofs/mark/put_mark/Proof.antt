@@ -16,12 +16,18 @@ mul-work-2 : tie.Need-mul-work-2
 unfolding keyOf
 mul-work-2 c = omega (arith, (c .before .pre) .1)
 
-add-work : tie.Need-add-work
-unfolding keyOf
-add-work c = omega (arith, (c .before .pre) .1)
-
 mul-work-3 : tie.Need-mul-work-3
 mul-work-3 c = search needs
+
+add-work : tie.Need-add-work
+add-work c = omega (arith, (c .before .pre) .2)
+
+add-work-2 : tie.Need-add-work-2
+unfolding keyOf
+add-work-2 c = omega (arith, (c .before .pre) .1, (c .before .pre) .2)
+
+mul-work-4 : tie.Need-mul-work-4
+mul-work-4 c = search needs
 
 slice-write-work : tie.Need-slice-write-work
 slice-write-work c = search needs
@@ -34,4 +40,4 @@ unfolding keyOf wordOf
 returns c = refl
 
 pub put-mark-spec : {M : Type 1} → statement M
-put-mark-spec = tie.close (tie.spec mul-work slice-read-work mul-work-2 add-work mul-work-3 slice-write-work same-length returns)
+put-mark-spec = tie.close (tie.spec mul-work slice-read-work mul-work-2 mul-work-3 add-work add-work-2 mul-work-4 slice-write-work same-length returns)

@@ -24,7 +24,7 @@ mark-requires : tie.Need-mark-requires
 mark-requires c κs = let pre = (c .before .before .before .before .before .before .before .pre) in (pre .0, pre .1, ((c .before .before .before .if1) .left), (_, pre .4), pre .5, pre .6)
 
 write-join-requires : tie.Need-write-join-requires
-write-join-requires c κs = let pre = (c .before .before .before .before .before .before .before .before .before .before .before .before .before .before .pre) in (pre .0, ((c .before .before .before .before .before .before .mark) .ensures) .0, ((c .before .before .before .before .before .before .mark) .ensures) .1 .0, pre .2, pre .3, pre .6)
+write-join-requires c κs = let pre = (c .before .before .before .before .before .before .before .before .before .before .before .before .before .before .pre) in (pre .0, (_, ((c .before .before .before .before .before .before .mark) .ensures) .0), ((c .before .before .before .before .before .before .mark) .ensures) .1 .0, pre .2, pre .3)
 
 same-length-2 : tie.Need-same-length-2
 same-length-2 c = search needs

@@ -1,33 +1,43 @@
 -- `search::write::write_moves` meets its contract: what is written and walked, then the rest, is the whole route.
+use Prim.Native.Nat.{ℕ}
+use mathlib.Core.List.{List}
 use native.Mathlib.Omega.{arith}
 use borrow.Author.Needs.{needs}
+use Rattle.job.specs.Structs.{gridOf}
+use Rattle.rules.specs.Seen.{viewBy}
 use Rattle.rules.specs.Structs.{techBy}
-use Rattle.front.proofs.Asking.{step-asked}
-use Rattle.search.proofs.Followed.{lead-asked}
-use Rattle.search.proofs.Writing.{Writing, writing-begun, writing-joins, writing-number, writing-legal, writing-fits, writing-on, writing-done}
+use Rattle.front.specs.Charts.{Charted}
+use Rattle.front.proofs.Asking.{step-asked, code-asked, code-here}
+use Rattle.search.proofs.Followed.{lead-read}
+use Rattle.search.proofs.Writing.{Writing, writing-begun, writing-number, writing-legal, writing-fits, writing-on, writing-done}
 use Rattle.search.proofs.write.write_moves.Statement.{statement}
 use Rattle.search.proofs.write.write_moves.Tie as tie
 
 abbrev Inv-loop : tie.InvT-loop
-Inv-loop tech seen spots₀ map₀ bounds largest work plan₀ net from start best count walk₀ at₀ left₀ spots map plan walk at left =
-    Writing tech seen bounds work net from best count start (record { spots = spots₀; codes = map₀ }) plan₀ spots map plan walk at left
+Inv-loop tech seen spots₀ map₀ largest work plan₀ net from start count walk₀ at₀ left₀ spots map plan walk at left =
+    (bounds : List ℕ) × (best : ℕ) × (Charted (techBy tech) (viewBy (gridOf (tech .grid)) seen) spots₀ bounds work best)
+    × (Writing tech seen bounds work net from best count start (record { spots = spots₀; codes = map₀ }) plan₀ spots map plan walk at left)
 
 abbrev μ-loop : tie.MeasureT-loop
-μ-loop tech seen spots₀ map₀ bounds largest work plan₀ net from start best count walk₀ at₀ left₀ spots map plan walk at left = left
+μ-loop tech seen spots₀ map₀ largest work plan₀ net from start count walk₀ at₀ left₀ spots map plan walk at left = left
 
 walk-from-requires : tie.Need-walk-from-requires Inv-loop μ-loop
 walk-from-requires c κs = search needs
 
 loop-holds : tie.Need-loop-holds Inv-loop μ-loop
-loop-holds c = let pre = (c .before .before .before .before .pre) in writing-begun _ _ _ _ _ _ _ _ _ _ _ ((c .walk-from) .ensures) (pre .0 .fits) (pre .1) (pre .2) (pre .6)
+loop-holds c =
+    let pre = (c .before .before .before .before .pre) in
+    let (bounds, best, charted) = pre .1 in
+    (bounds, best, charted, writing-begun _ _ _ _ _ _ _ _ _ _ _ ((c .walk-from) .ensures) (pre .0 .fits) charted (pre .2) (pre .6))
 
-lowest-lead-requires : tie.Need-lowest-lead-requires Inv-loop μ-loop
-lowest-lead-requires c κs =
-    let inv = (c .before .before .before .loop) .inv in
-    lead-asked ((c .before .before .before .before .before .before .before .before .pre) .0) _ ((c .before .before .before .before .before .before .before .before .pre) .1) _ ((c .before .before .before .before .before .before .before .before .pre) .7) (inv .made .place) (writing-joins _ _ _ _ _ _ _ _ _ _ _ inv ((c .before .before .loop-test) .taken))
+code-of-requires : tie.Need-code-of-requires Inv-loop μ-loop
+code-of-requires c κs = code-asked ((c .before .before .before .before .before .before .before .pre) .0) _ ((c .before .before .loop) .inv .3 .made .place)
+
+lead-at-requires : tie.Need-lead-at-requires Inv-loop μ-loop
+lead-at-requires c κs = code-here ((c .before .before .before .before .before .before .before .before .pre) .0) _ ((c .before .before .before .loop) .inv .3 .made .place) ((c .code-of) .ensures) ((c .before .before .before .loop) .inv .2 .room)
 
 step-requires : tie.Need-step-requires Inv-loop μ-loop
-step-requires c κs = step-asked ((c .before .before .before .before .before .before .before .before .before .pre) .0) _ ((c .before .before .before .before .loop) .inv .made .place)
+step-requires c κs = step-asked ((c .before .before .before .before .before .before .before .before .before .pre) .0) _ ((c .before .before .before .before .loop) .inv .3 .made .place)
 
 enum-known-made : tie.Need-enum-known-made Inv-loop μ-loop
 enum-known-made c = search needs
@@ -43,32 +53,38 @@ same-length-2 c = search needs
 
 returns : tie.Need-returns Inv-loop μ-loop
 returns c =
-    let inv = (c .before .before .before .before .before .before .before .loop) .inv in
+    let charted = (c .before .before .before .before .before .before .before .loop) .inv .2 in
+    let inv = (c .before .before .before .before .before .before .before .loop) .inv .3 in
     let some = (c .before .before .before .before .before .before .loop-test) .taken in
-    let number = writing-number _ _ _ _ _ _ _ _ _ _ _ inv some ((c .before .before .before .before .before .before .before .before .before .before .before .before .pre) .0 .fits) ((c .before .before .before .before .before .before .before .before .before .before .before .before .pre) .1) ((c .before .before .before .lowest-lead) .ensures) in
+    let told = lead-read ((c .before .before .before .before .before .before .before .before .before .before .before .before .pre) .0) _ charted _ (inv .made .place) ((c .before .before .before .before .code-of) .ensures) ((c .before .before .before .lead-at) .ensures) in
+    let number = writing-number _ _ _ _ _ _ _ _ _ _ _ inv some ((c .before .before .before .before .before .before .before .before .before .before .before .before .pre) .0 .fits) charted told in
     absurd (writing-legal _ _ _ _ _ _ _ _ _ _ _ inv some number ((c .before .before .step) .ensures) ((c .enum-told) .given .1))
 
 put-requires : tie.Need-put-requires Inv-loop μ-loop
 put-requires c κs =
     let pre = (c .before .before .before .before .before .before .before .before .before .before .before .before .before .before .pre) in
-    record { narrow = omega arith; below = omega (arith, (c .before .before .before .before .before .before .before .before .before .loop) .inv .next, pre .4, pre .5) }
+    record { narrow = omega arith; below = omega (arith, (c .before .before .before .before .before .before .before .before .before .loop) .inv .3 .next, pre .4, pre .5) }
 
 enter-move-requires : tie.Need-enter-move-requires Inv-loop μ-loop
 unfolding techBy
 enter-move-requires c κs =
-    let inv = (c .before .before .before .before .before .before .before .before .before .before .before .before .before .before .loop) .inv in
+    let charted = (c .before .before .before .before .before .before .before .before .before .before .before .before .before .before .loop) .inv .2 in
+    let inv = (c .before .before .before .before .before .before .before .before .before .before .before .before .before .before .loop) .inv .3 in
     let some = (c .before .before .before .before .before .before .before .before .before .before .before .before .before .loop-test) .taken in
     let pre = (c .before .before .before .before .before .before .before .before .before .before .before .before .before .before .before .before .before .before .before .pre) in
-    let number = writing-number _ _ _ _ _ _ _ _ _ _ _ inv some (pre .0 .fits) (pre .1) ((c .before .before .before .before .before .before .before .before .before .before .lowest-lead) .ensures) in
+    let told = lead-read (pre .0) _ charted _ (inv .made .place) ((c .before .before .before .before .before .before .before .before .before .before .before .code-of) .ensures) ((c .before .before .before .before .before .before .before .before .before .before .lead-at) .ensures) in
+    let number = writing-number _ _ _ _ _ _ _ _ _ _ _ inv some (pre .0 .fits) charted told in
     let new = writing-fits _ _ _ _ _ _ _ _ _ _ _ inv some number ((c .before .before .before .before .before .before .before .before .before .step) .ensures) _ ((c .before .before .before .before .before .before .before .made) .given .1) (pre .0 .fits) in
     (pre .0 .fits .sized, inv .made .place .vertex, new .place .vertex, omega (arith, pre .3, inv .size))
 
 walk-on-requires : tie.Need-walk-on-requires Inv-loop μ-loop
 walk-on-requires c κs =
-    let inv = (c .before .before .before .before .before .before .before .before .before .before .before .before .before .before .before .before .before .loop) .inv in
+    let charted = (c .before .before .before .before .before .before .before .before .before .before .before .before .before .before .before .before .before .loop) .inv .2 in
+    let inv = (c .before .before .before .before .before .before .before .before .before .before .before .before .before .before .before .before .before .loop) .inv .3 in
     let some = (c .before .before .before .before .before .before .before .before .before .before .before .before .before .before .before .before .loop-test) .taken in
     let pre = (c .before .before .before .before .before .before .before .before .before .before .before .before .before .before .before .before .before .before .before .before .before .before .pre) in
-    let number = writing-number _ _ _ _ _ _ _ _ _ _ _ inv some (pre .0 .fits) (pre .1) ((c .before .before .before .before .before .before .before .before .before .before .before .before .before .lowest-lead) .ensures) in
+    let told = lead-read (pre .0) _ charted _ (inv .made .place) ((c .before .before .before .before .before .before .before .before .before .before .before .before .before .before .code-of) .ensures) ((c .before .before .before .before .before .before .before .before .before .before .before .before .before .lead-at) .ensures) in
+    let number = writing-number _ _ _ _ _ _ _ _ _ _ _ inv some (pre .0 .fits) charted told in
     let new = writing-fits _ _ _ _ _ _ _ _ _ _ _ inv some number ((c .before .before .before .before .before .before .before .before .before .before .before .before .step) .ensures) _ ((c .before .before .before .before .before .before .before .before .before .before .made) .given .1) (pre .0 .fits) in (
       omega (arith, inv .made .cost, pre .5),
       omega (arith, inv .made .added, pre .5),
@@ -87,11 +103,13 @@ loop-less c = omega (arith, (c .before .before .before .before .before .before .
 
 loop-again : tie.Need-loop-again Inv-loop μ-loop
 loop-again c =
-    let inv = (c .before .before .before .before .before .before .before .before .before .before .before .before .before .before .before .before .before .before .loop) .inv in
+    let charted = (c .before .before .before .before .before .before .before .before .before .before .before .before .before .before .before .before .before .before .loop) .inv .2 in
+    let inv = (c .before .before .before .before .before .before .before .before .before .before .before .before .before .before .before .before .before .before .loop) .inv .3 in
     let some = (c .before .before .before .before .before .before .before .before .before .before .before .before .before .before .before .before .before .loop-test) .taken in
     let pre = (c .before .before .before .before .before .before .before .before .before .before .before .before .before .before .before .before .before .before .before .before .before .before .before .pre) in
-    let number = writing-number _ _ _ _ _ _ _ _ _ _ _ inv some (pre .0 .fits) (pre .1) ((c .before .before .before .before .before .before .before .before .before .before .before .before .before .before .lowest-lead) .ensures) in
-    writing-on _ _ _ _ _ _ _ _ _ _ _ inv some number ((c .before .before .before .before .before .before .before .before .before .before .before .before .before .step) .ensures) _ ((c .before .before .before .before .before .before .before .before .before .before .before .made) .given .1) (pre .0 .fits) (pre .1) ((c .before .before .before .enter-move) .ensures .1) ((c .before .before .before .enter-move) .ensures .0) ((c .before .before .before .before .before .before .before .before .put) .ensures .1) ((c .before .before .before .before .before .before .before .before .put) .ensures .0) ((c .walk-on) .ensures)
+    let told = lead-read (pre .0) _ charted _ (inv .made .place) ((c .before .before .before .before .before .before .before .before .before .before .before .before .before .before .before .code-of) .ensures) ((c .before .before .before .before .before .before .before .before .before .before .before .before .before .before .lead-at) .ensures) in
+    let number = writing-number _ _ _ _ _ _ _ _ _ _ _ inv some (pre .0 .fits) charted told in
+    ((c .before .before .before .before .before .before .before .before .before .before .before .before .before .before .before .before .before .before .loop) .inv .0, (c .before .before .before .before .before .before .before .before .before .before .before .before .before .before .before .before .before .before .loop) .inv .1, charted, writing-on _ _ _ _ _ _ _ _ _ _ _ inv some number ((c .before .before .before .before .before .before .before .before .before .before .before .before .before .step) .ensures) _ ((c .before .before .before .before .before .before .before .before .before .before .before .made) .given .1) (pre .0 .fits) charted ((c .before .before .before .enter-move) .ensures .1) ((c .before .before .before .enter-move) .ensures .0) ((c .before .before .before .before .before .before .before .before .put) .ensures .1) ((c .before .before .before .before .before .before .before .before .put) .ensures .0) ((c .walk-on) .ensures))
 
 same-length-3 : tie.Need-same-length-3 Inv-loop μ-loop
 same-length-3 c = search needs
@@ -100,9 +118,9 @@ same-length-4 : tie.Need-same-length-4 Inv-loop μ-loop
 same-length-4 c = search needs
 
 returns-2 : tie.Need-returns-2 Inv-loop μ-loop
-returns-2 c = writing-done _ _ _ _ _ _ _ _ _ _ _ ((c .before .loop) .inv) ((c .loop-test) .left) ((c .before .before .before .before .before .before .pre) .5)
+returns-2 c = writing-done _ _ _ _ _ _ _ _ _ _ _ ((c .before .loop) .inv .3) ((c .loop-test) .left) ((c .before .before .before .before .before .before .pre) .5)
 
 pub write-moves-spec : {M : Type 1} → statement M
 write-moves-spec =
-    tie.close (tie.spec Inv-loop μ-loop walk-from-requires loop-holds lowest-lead-requires step-requires enum-known-made enum-told same-length same-length-2
+    tie.close (tie.spec Inv-loop μ-loop walk-from-requires loop-holds code-of-requires lead-at-requires step-requires enum-known-made enum-told same-length same-length-2
     returns put-requires enter-move-requires walk-on-requires sub-left loop-less loop-again same-length-3 same-length-4 returns-2)
