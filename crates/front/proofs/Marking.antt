@@ -9,7 +9,7 @@
 --     marking-fits, marking-read, marking-asked         the next of them
 --     marking-only, marking-unlit                       only the moves of its vertex's byte may lead on
 --     marking-charted, -lowest, -kept                   all are asked
-use Prim.Native.Nat.{ℕ, zero, suc, _+_, _-_, _*_, _/_, _%_, _^_, _≤_, _<_}
+use Prim.Native.Nat.{ℕ, zero, suc, _+_, _-_, _*_, _/_, _%_, _^_, _≤_, _<_, min}
 use mathlib.Core.Path.{_≡_, refl, sym, ap, subst, _∙_}
 use mathlib.Core.Logic.{_⊎_, inl, inr}
 use mathlib.Core.List.{List}
@@ -218,7 +218,7 @@ module _ {t : Tech} {view : View} {spots bounds : List ℕ} {best item : ℕ} {p
   answered-not asked = record { marked = false; asked = asked; same = λ other. refl; lower = λ is. absurd (true≢false (sym is)) }
 
   pub answered-marked : {lights after : List ℕ} {start r : ℕ} → Asked t view spots bounds best item p near work lights after true
-      → ((costs t bounds after item ≡ 1 → ⊥) → r ≡ start) → (costs t bounds after item ≡ 1 → r ≡ start - (start - p .vertex))
+      → ((costs t bounds after item ≡ 1 → ⊥) → r ≡ start) → (costs t bounds after item ≡ 1 → r ≡ min start (p .vertex))
       → Answered t view spots bounds best item p near work lights after start r
   answered-marked asked same lower =
       record { marked = true; asked = asked; same = λ other. same (λ none. other refl none); lower = λ is none. lower none }
@@ -675,7 +675,7 @@ module _ (t : Tech) (view : View) (spots bounds work₀ : List ℕ) (settled bes
                     dear (cost-same ∙ sym (ap (costs t bounds work₀) code) ∙ ended .between .spread .starts v h (eqb-true (getD spots v 0) 1 is))
 
             -- one that costs nothing is
-            marking-start : costs t bounds work item ≡ 1 → {first : ℕ} → first ≡ start - (start - here .vertex) → Marking lights marked left first
+            marking-start : costs t bounds work item ≡ 1 → {first : ℕ} → first ≡ min start (here .vertex) → Marking lights marked left first
             unfolding startAt
             marking-start none {first} lesser = by (ended .between .spread .reached on (ap (costs t bounds work₀) is-here ∙ sym cost-same ∙ none))
               where

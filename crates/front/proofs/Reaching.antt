@@ -3,7 +3,7 @@
 --     made-left, left-told             what is left from there; it is small
 --     goal-told, goal-not              whether a vertex is an unjoined pin
 --     reach-stopped, -enters, -goes    what trying it does
-use Prim.Native.Nat.{ℕ, _+_, _-_, _*_, _^_, _≤_, _<_}
+use Prim.Native.Nat.{ℕ, _+_, _-_, _*_, _^_, _≤_, _<_, min}
 use mathlib.Core.Path.{_≡_, refl, sym, ap, _∙_}
 use mathlib.Core.List.{List}
 use mathlib.Core.Bool.{true, false, true≢false}
@@ -104,12 +104,12 @@ module _ {t : Tech} {view : View} {spots bounds : List ℕ} {p : Place} {distanc
 
   module _ {c : ℕ} {q : Place} (is : move ≡ to c q) where
     -- a move into a goal
-    pub reach-enters : eqb (getD spots (q .vertex) 0) 2 ≡ true → {less : ℕ} {lit : List ℕ} → less ≡ best - (best - (distance + c)) → lit ≡ set near (p .vertex) (withMove (getD near (p .vertex) 0) number)
+    pub reach-enters : eqb (getD spots (q .vertex) 0) 2 ≡ true → {less : ℕ} {lit : List ℕ} → less ≡ min best (distance + c) → lit ≡ set near (p .vertex) (withMove (getD near (p .vertex) 0) number)
         → Reach t view spots bounds p distance number move size best near work size less lit work
     reach-enters g lesser set =
         record {
           stopped = λ e. absurd (not-blocked (sym e ∙ is));
-          enters = λ e h. (refl, lesser ∙ ap (λ (x : ℕ). best - (best - (distance + x))) (one-price (sym is ∙ e)), set, refl);
+          enters = λ e h. (refl, lesser ∙ ap (λ (x : ℕ). min best (distance + x)) (one-price (sym is ∙ e)), set, refl);
           goes = λ e h. absurd (true≢false (sym g ∙ same-goal spots is e ∙ h));
         }
 

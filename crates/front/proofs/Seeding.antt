@@ -3,7 +3,7 @@
 --     seeding-begun, -next, -skip, -done      so far
 --     Flagged, flagged-begun, -on, -none      whether a block of bytes has one that is not 0
 --     Blocked, blocked-begun, -on, -long, -done      the vertices of a block
-use Prim.Native.Nat.{ℕ, suc, _+_, _-_, _%_, _≤_, _<_}
+use Prim.Native.Nat.{ℕ, suc, _+_, _-_, _%_, _≤_, _<_, min}
 use mathlib.Core.Path.{_≡_, refl, sym, ap, _∙_}
 use mathlib.Core.Logic.{_⊎_, inl, inr}
 use mathlib.Core.List.{List}
@@ -223,6 +223,6 @@ module _ (t : Tech) (spots bounds work₀ : List ℕ) (size₀ from to : ℕ) wh
     blocked-done all found begun = let end : v ≡ to = omega (arith, so-far .few) in rw (← end) (so-far .turns found begun)
 
 -- what a block is asked for
-pub block-asked : {all from to count : ℕ} → count ≡ all → from < count → from % 128 ≡ 0 → all ≤ 16384 → to ≡ count - (count - (from + 128))
+pub block-asked : {all from to count : ℕ} → count ≡ all → from < count → from % 128 ≡ 0 → all ≤ 16384 → to ≡ min count (from + 128)
     → (from + 128 ≤ 16384) × (from ≤ to) × (to ≤ from + 128) × (to ≤ all)
 block-asked is less whole most end = (omega arith, omega arith, omega arith, omega arith)

@@ -8,7 +8,7 @@
 --     Eased             an entry lowered to a key, unless it is settled or no greater
 --     spread-goes       a move to another place
 --     spread-forward    no open place is below the best cost: what the search has found
-use Prim.Native.Nat.{ℕ, zero, suc, _+_, _-_, _^_, _≤_, _<_}
+use Prim.Native.Nat.{ℕ, zero, suc, _+_, _-_, _^_, _≤_, _<_, min}
 use mathlib.Core.Path.{_≡_, refl, sym, ap, _∙_}
 use mathlib.Core.Logic.{_⊎_, inl, inr}
 use mathlib.Core.List.{List}
@@ -243,7 +243,7 @@ module _ {t : Tech} (view : View) (spots : List ℕ) (fine : GoodTech t) where
         (legal : Legal (systemBy t view spots) here number price next) (enters : goal next ≡ true) (room : here .vertex < length near) where
       -- the lesser cost
       abbrev lesser : ℕ
-      lesser = best - (best - (distance + price))
+      lesser = min best (distance + price)
 
       -- the move's bit is set
       abbrev lights : List ℕ

@@ -4,7 +4,7 @@
 --     turn-on        one more move is tried
 --     distance-by    the cost by the key
 --     Trying, trying-begun, -asked, -on      the moves so far, in the code's words
-use Prim.Native.Nat.{ℕ, suc, _+_, _-_, _*_, _/_, _≤_, _<_}
+use Prim.Native.Nat.{ℕ, suc, _+_, _-_, _*_, _/_, _≤_, _<_, min}
 use mathlib.Core.Path.{_≡_, refl, sym, ap, _∙_}
 use mathlib.Core.Logic.{_⊎_, inl, inr}
 use mathlib.Core.List.{List}
@@ -182,7 +182,7 @@ module _ {t : Tech} {view : View} {spots bounds : List ℕ} (fine : GoodTech t) 
 
   -- it enters a goal
   turn-enters : {c : ℕ} {q : Place} → systemBy t view spots .step here number ≡ to c q → eqb (getD spots (q .vertex) 0) 2 ≡ true
-      → Turn t view spots bounds (set near (here .vertex) (withMove (getD near (here .vertex) 0) number)) work size settled (best - (best - (distance + c))) item distance (number + 1)
+      → Turn t view spots bounds (set near (here .vertex) (withMove (getD near (here .vertex) 0) number)) work size settled (min best (distance + c)) item distance (number + 1)
   turn-enters does g =
       record {
         laid = turn .laid;

@@ -5,7 +5,8 @@
 --     costs, reachedBy    the cost to each place that has an entry
 --     atLeast             what is left at least from a place
 --     markBy, markedLead, markSlot     whether a place has a mark, the move that it tells, and the slot of such a mark
---     bestBy              the cost of the cheapest goal found
+--     noGoal, bestBy      the cost of the cheapest goal found
+--     dearestMove         the most that a move can cost
 --     Searched            what the code asks of its layers
 use Prim.Native.Nat.{ℕ, zero, suc, _+_, _-_, _*_, _/_, _%_}
 use mathlib.Core.Path.{_≡_}
@@ -76,9 +77,17 @@ markBy t work p = eqb (slotOf (getD work (placeCode t p) 0) / 4) 262142
 unfoldable pub markedLead : Tech → (work : List ℕ) → Place → ℕ
 markedLead t work p = slotOf (getD work (placeCode t p) 0) % 4
 
--- the cost of the cheapest goal found: 2^40 - 1 is none
+-- the cost that stands for no goal: every goal costs less
+abbrev pub noGoal : ℕ
+noGoal = 1099511627775
+
+-- the cost of the cheapest goal found
 unfoldable pub bestBy : (best : ℕ) → Cost
-bestBy best = cond (ltb best 1099511627775) (fin best) inf
+bestBy best = cond (ltb best noGoal) (fin best) inf
+
+-- no move costs more
+abbrev pub dearestMove : ℕ
+dearestMove = 197625
 
 -- good layers, with the largest M beside them
 pub record Searched (tech : TechStruct) (largest : ℕ) : Type 0 where

@@ -4,7 +4,7 @@
 --     OnlyMoves     no move leads on but those of a byte
 --     Asked         what asking a settled place does: it gets a mark that tells the lowest move that leads on, and then the moves that enter its vertex have their bits
 --     Answered      and what is answered: the lower start
-use Prim.Native.Nat.{ℕ, suc, _-_, _≤_, _<_}
+use Prim.Native.Nat.{ℕ, suc, _-_, _≤_, _<_, min}
 use mathlib.Core.Path.{_≡_}
 use mathlib.Core.List.{List}
 use mathlib.Core.Bool.{Bool, true, false}
@@ -48,4 +48,4 @@ pub record Answered (t : Tech) (view : View) (spots bounds : List ℕ) (best ite
   pub marked : Bool
   pub asked : Asked t view spots bounds best item p near work near′ work′ marked
   pub same : (marked ≡ true → costs t bounds work′ item ≡ 1 → ⊥) → r ≡ start
-  pub lower : marked ≡ true → costs t bounds work′ item ≡ 1 → r ≡ start - (start - p .vertex)
+  pub lower : marked ≡ true → costs t bounds work′ item ≡ 1 → r ≡ min start (p .vertex)

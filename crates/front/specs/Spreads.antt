@@ -7,7 +7,7 @@
 --     Between        after all moves of the settled places
 --     Ended          when the search stops
 --     Reach          what trying one move does
-use Prim.Native.Nat.{ℕ, suc, _+_, _-_, _*_, _≤_, _<_}
+use Prim.Native.Nat.{ℕ, suc, _+_, _-_, _*_, _≤_, _<_, min}
 use mathlib.Core.Path.{_≡_}
 use mathlib.Core.List.{List}
 use mathlib.Core.Bool.{true, false}
@@ -22,9 +22,9 @@ use Rattle.rules.specs.Prices.{Tech}
 use Rattle.rules.specs.Walks.{startAt}
 use Rattle.rules.specs.Joins.{places}
 use Rattle.rules.specs.Places.{placeCode, GoodPlace}
-use Rattle.heap.specs.Heaps.{keyOf, slotOf, In, Lowered}
+use Rattle.heap.specs.Heaps.{settledSlot, keyOf, slotOf, In, Lowered}
 use Rattle.metal.specs.Codes.{Beyond}
-use Rattle.front.specs.Fronts.{systemBy, startsBy, leftAt, costs}
+use Rattle.front.specs.Fronts.{systemBy, startsBy, leftAt, costs, noGoal, dearestMove}
 use Rattle.front.specs.Lists.{Done, Laid}
 use Rattle.front.specs.Bits.{HasMove, withMove}
 
@@ -77,8 +77,8 @@ module _ (t : Tech) (view : View) (spots : List ℕ) where
       pub lit : {p q : Place} {m c : ℕ} → GoodPlace t p → settled (placeCode t p) → (placeCode t p ≡ item → m < number)
           → Legal (systemBy t view spots) p m c q → eqb (getD spots (q .vertex) 0) 2 ≡ true
           → HasMove (getD near (p .vertex) 0) m
-      pub found : best < 1099511627775 → Entered best
-      pub bound : best ≤ 1099511627775
+      pub found : best < noGoal → Entered best
+      pub bound : best ≤ noGoal
 
   module _ (bounds : List ℕ) where
     -- each key tells a cost
@@ -89,21 +89,21 @@ module _ (t : Tech) (view : View) (spots : List ℕ) where
     pub record Turn (near work : List ℕ) (size settled best item distance number : ℕ) : Type 0 where
       pub laid : Laid (places t) size settled (suc (8 * distance + leftAt t bounds item)) work
       pub told : Told work
-      pub spread : Spread (costs t bounds work) (Done (places t) work) near best (197625 * settled) item number
+      pub spread : Spread (costs t bounds work) (Done (places t) work) near best (dearestMove * settled) item number
       pub known : item < places t
       pub done : Done (places t) work item
       pub key : keys work item ≡ suc (8 * distance + leftAt t bounds item)
-      pub below : distance ≤ 197625 * (settled - 1)
-      pub plain : (c : ℕ) → c < places t → Done (places t) work c → slotOf (getD work c 0) ≡ 1048575
+      pub below : distance ≤ dearestMove * (settled - 1)
+      pub plain : (c : ℕ) → c < places t → Done (places t) work c → slotOf (getD work c 0) ≡ settledSlot
       pub bytes : length near ≡ 16384
 
-    -- a place costs at most 197,625 more than one settled before it
+    -- a place costs at most the dearest move more than one settled before it
     pub record Between (near work : List ℕ) (size settled best : ℕ) : Type 0 where
       pub last : ℕ
       pub laid : Laid (places t) size settled last work
       pub told : Told work
-      pub spread : Spread (costs t bounds work) (Done (places t) work) near best (197625 * settled) 0 4
-      pub plain : (c : ℕ) → c < places t → Done (places t) work c → slotOf (getD work c 0) ≡ 1048575
+      pub spread : Spread (costs t bounds work) (Done (places t) work) near best (dearestMove * settled) 0 4
+      pub plain : (c : ℕ) → c < places t → Done (places t) work c → slotOf (getD work c 0) ≡ settledSlot
       pub bytes : length near ≡ 16384
 
     -- no open place is within the best cost
@@ -115,6 +115,6 @@ module _ (t : Tech) (view : View) (spots : List ℕ) where
     pub record Reach (p : Place) (distance number : ℕ) (move : Step Place) (size best : ℕ) (near work : List ℕ) (size′ best′ : ℕ) (near′ work′ : List ℕ) : Type 0 where
       pub stopped : move ≡ blocked → (size′ ≡ size) × (best′ ≡ best) × (near′ ≡ near) × (work′ ≡ work)
       pub enters : {c : ℕ} {q : Place} → move ≡ to c q → eqb (getD spots (q .vertex) 0) 2 ≡ true
-          → (size′ ≡ size) × (best′ ≡ best - (best - (distance + c))) × (near′ ≡ set near (p .vertex) (withMove (getD near (p .vertex) 0) number)) × (work′ ≡ work)
+          → (size′ ≡ size) × (best′ ≡ min best (distance + c)) × (near′ ≡ set near (p .vertex) (withMove (getD near (p .vertex) 0) number)) × (work′ ≡ work)
       pub goes : {c : ℕ} {q : Place} → move ≡ to c q → eqb (getD spots (q .vertex) 0) 2 ≡ false
           → Lowered (places t) size (placeCode t q) (8 * (distance + c) + leftAt t bounds (placeCode t q)) work work′ size′ × (best′ ≡ best) × (near′ ≡ near)

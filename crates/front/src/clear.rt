@@ -2,7 +2,7 @@
 ghost use mathlib.Core.Path.{_≡_};
 ghost use Prim.Native.Nat.{ℕ, _+_, _-_, _≤_, _<_};
 ghost use lib.ListN.{length, getD, set};
-ghost use Rattle.heap.specs.Heaps.{itemAt, Seated};
+ghost use Rattle.heap.specs.Heaps.{mostItems, itemAt, Seated};
 ghost use Rattle.metal.specs.Codes.{Beyond, Bare};
 ghost use Rattle.front.specs.Lists.{listAt, Laid};
 use heap::cells::item_at;
@@ -32,7 +32,7 @@ fn clear_heap(work: &mut [u64], n: usize, size: usize)
 
 // The settled places, and their list.
 fn clear_list(work: &mut [u64], n: usize, settled: usize)
-    requires { ⌜ (n ≤ 524288) × (n + n ≤ length (now work)) × (settled ≤ n) × ((i : ℕ) → i < settled → listAt n (now work) i < n) ⌝ }
+    requires { ⌜ (n ≤ mostItems) × (n + n ≤ length (now work)) × (settled ≤ n) × ((i : ℕ) → i < settled → listAt n (now work) i < n) ⌝ }
     ensures { λ _. ⌜ ((i : ℕ) → i < settled → getD (now (work .exit)) (listAt n (now (work .entry)) i) 0 ≡ 0)
         × ((i : ℕ) → i < settled → getD (now (work .exit)) (n + n - 1 - i) 0 ≡ 0)
         × ((j : ℕ) → n + n ≤ j → getD (now (work .exit)) j 0 ≡ getD (now (work .entry)) j 0)

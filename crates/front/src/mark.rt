@@ -1,7 +1,7 @@
 // The places of cheapest joins get marks: from the last settled place to the first, one gets a mark where a move leads on. Each move
 // raises the key, so that a place leads on only to places settled after it, and one pass suffices.
 ghost use mathlib.Core.Path.{_≡_};
-ghost use Prim.Native.Nat.{ℕ, suc, _+_, _-_, _*_, _/_, _%_, _≤_, _<_, _^_};
+ghost use Prim.Native.Nat.{ℕ, suc, _+_, _-_, _*_, _/_, _%_, _≤_, _<_, _^_, min};
 ghost use lib.ListN.{length, getD, set};
 ghost use Rattle.job.specs.Grid.{vertices};
 ghost use Rattle.job.specs.Structs.{Sized, gridOf};
@@ -13,7 +13,7 @@ ghost use Rattle.rules.specs.Joins.{places};
 ghost use Rattle.rules.specs.Places.{placeAt};
 ghost use Rattle.rules.specs.Structs.{techBy};
 ghost use Rattle.bounds.specs.Bounds.{Bounding, SmallBounds};
-ghost use Rattle.front.specs.Fronts.{costs, markSlot, Searched};
+ghost use Rattle.front.specs.Fronts.{costs, markSlot, noGoal, Searched};
 ghost use Rattle.front.specs.Lists.{Laid};
 ghost use Rattle.front.specs.Spreads.{Ended};
 ghost use Rattle.front.specs.Leads.{OnlyMoves, Answered};
@@ -75,7 +75,7 @@ fn lower_start(
 ) -> usize
     requires { ⌜ (Searched tech largest) × (item < places (techBy tech)) × (places (techBy tech) ≤ length (now work)) × (SmallBounds (now bounds)) ⌝ }
     ensures other { λ r. ⌜ ((costs (techBy tech) (now (bounds .entry)) (now (work .entry)) item ≡ 1 → ⊥) → r ≡ start) ⌝ }
-    ensures lower { λ r. ⌜ (costs (techBy tech) (now (bounds .entry)) (now (work .entry)) item ≡ 1 → r ≡ start - (start - item / (2 * (largest + 1)))) ⌝ }
+    ensures lower { λ r. ⌜ (costs (techBy tech) (now (bounds .entry)) (now (work .entry)) item ≡ 1 → r ≡ min start (item / (2 * (largest + 1)))) ⌝ }
 {
     let vertex = item / (2 * (largest + 1));
     let left = bound_at(bounds, tech.grid, vertex);
@@ -130,7 +130,7 @@ pub fn mark(
     settled: usize,
     best: u64,
 ) -> usize
-    requires { ⌜ (Searched tech largest) × (n ≡ places (techBy tech)) × (best < 1099511627775) × ((size : ℕ)
+    requires { ⌜ (Searched tech largest) × (n ≡ places (techBy tech)) × (best < noGoal) × ((size : ℕ)
         × (Ended (techBy tech) (viewBy (gridOf (tech .grid)) (now seen)) (now spots) (now bounds) (now near) (now work) size settled best))
         × (Bounding (techBy tech) (now spots) (now bounds)) × (SmallBounds (now bounds)) ⌝ }
     ensures charted { λ _. ⌜ Charted (techBy tech) (viewBy (gridOf (tech .grid)) (now (seen .entry))) (now (spots .entry)) (now (bounds .entry)) (now (work .exit)) best ⌝ }

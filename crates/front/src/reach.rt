@@ -1,9 +1,9 @@
 // The moves of a place that is settled: each may lower the entry of another place, or the best cost.
 ghost use mathlib.Core.Path.{_≡_};
-ghost use Prim.Native.Nat.{ℕ, _+_, _-_, _*_, _≤_, _<_};
+ghost use Prim.Native.Nat.{ℕ, _+_, _-_, _*_, _≤_, _<_, min};
 ghost use Rattle.job.specs.Structs.{gridOf, vertexStruct};
 ghost use Rattle.rules.specs.Tracks.{vertexBy};
-ghost use Rattle.heap.specs.Heaps.{Heaped};
+ghost use Rattle.heap.specs.Heaps.{mostItems, Heaped};
 ghost use Rattle.tables.specs.Moves.{Prepared};
 ghost use Rattle.metal.specs.Codes.{Beyond};
 ghost use Rattle.rules.specs.Seen.{viewBy};
@@ -12,7 +12,7 @@ ghost use Rattle.rules.specs.Joins.{places};
 ghost use Rattle.rules.specs.Places.{GoodPlace};
 ghost use Rattle.rules.specs.Structs.{techBy, placeOf};
 ghost use Rattle.bounds.specs.Bounds.{Bounding, SmallBounds};
-ghost use Rattle.front.specs.Fronts.{leftAt, Searched};
+ghost use Rattle.front.specs.Fronts.{leftAt, dearestMove, Searched};
 ghost use Rattle.front.specs.Spreads.{Turn, Reach};
 use crate::moves::with_move;
 use crate::places::code_of;
@@ -36,7 +36,7 @@ pub struct Front {
 
 // The lesser of two costs.
 fn lesser(best: u64, cost: u64) -> u64
-    ensures { λ r. ⌜ r ≡ best - (best - cost) ⌝ }
+    ensures { λ r. ⌜ r ≡ min best cost ⌝ }
 {
     if cost < best { cost } else { best }
 }
@@ -62,7 +62,7 @@ fn reach(
     front: Front,
 ) -> Front
     requires { ⌜ (Searched tech largest) × (GoodPlace (techBy tech) (placeOf place)) × (n ≡ places (techBy tech)) × (Heaped n (front .size) (now work))
-        × (distance ≤ 103612416000) × (SmallBounds (now bounds)) × (from ≡ vertexStruct (vertexBy (gridOf (tech .grid)) (place .vertex))) ⌝ }
+        × (distance ≤ dearestMove * mostItems) × (SmallBounds (now bounds)) × (from ≡ vertexStruct (vertexBy (gridOf (tech .grid)) (place .vertex))) ⌝ }
     requires { ⌜ Prepared (techBy tech) (viewBy (gridOf (tech .grid)) (now seen)) (now rates) (now ground) (now lows) (now highs) ⌝ }
     ensures { λ r. ⌜ Reach (techBy tech) (viewBy (gridOf (tech .grid)) (now (seen .entry))) (now (spots .entry)) (now (bounds .entry)) (placeOf place) distance number
         (priced (step (techBy tech) (viewBy (gridOf (tech .grid)) (now (seen .entry))) (placeOf place) number))

@@ -2,7 +2,7 @@
 ghost use mathlib.Core.Path.{_≡_};
 ghost use mathlib.Core.List.{List};
 ghost use mathlib.Core.Bool.{false};
-ghost use Prim.Native.Nat.{ℕ, _+_, _-_, _≤_, _<_};
+ghost use Prim.Native.Nat.{ℕ, _+_, _-_, _≤_, _<_, min};
 ghost use lib.ListN.{length, getD};
 ghost use Rattle.job.specs.Grid.{vertices};
 ghost use Rattle.job.specs.Structs.{gridOf};
@@ -69,7 +69,7 @@ fn some_in(spots: &[u8; 16384], from: usize) -> bool
 // Where the block of a vertex ends.
 fn block_end(from: usize, count: usize) -> usize
     requires { ⌜ from ≤ 16384 ⌝ }
-    ensures { λ r. ⌜ r ≡ count - (count - (from + 128)) ⌝ }
+    ensures { λ r. ⌜ r ≡ min count (from + 128) ⌝ }
 {
     if count < from + 128 {
         count

@@ -2,6 +2,7 @@
 -- key is 0 where the item was never touched, else its distance and 1; the slot is the item's place in the heap, or n or more where it has
 -- left it (it is settled). Word n + i is for place i of the heap: the key of the item there, and in the slot's stead its number, so that keys are
 -- compared in the heap's words alone. What the items are is not said here.
+--     slots, settledSlot, mostItems, greatestKey     the sizes of an entry's parts
 --     keyOf, slotOf, wordOf     the key and the slot of an entry, and an entry of the two
 --     itemAt, keyAt             the item at a place, and its key
 --     above                     the place above a place: four places are below each
@@ -17,17 +18,33 @@ use lib.ListN.{length, getD}
 
 -- ---- entries
 
+-- how many slots an entry can name: its key stands above them
+abbrev pub slots : ℕ
+slots = 1048576
+
+-- the slot of an item that has left the heap
+abbrev pub settledSlot : ℕ
+settledSlot = 1048575
+
+-- so many items have places below the slots of those that have left
+abbrev pub mostItems : ℕ
+mostItems = 524288
+
+-- with the slots below it, it fits a word
+abbrev pub greatestKey : ℕ
+greatestKey = 1099511627776
+
 -- the key of an entry
 unfoldable pub keyOf : (word : ℕ) → ℕ
-keyOf word = word / 1048576
+keyOf word = word / slots
 
 -- its slot
 unfoldable pub slotOf : (word : ℕ) → ℕ
-slotOf word = word % 1048576
+slotOf word = word % slots
 
 -- an entry of the two
 unfoldable pub wordOf : (key slot : ℕ) → ℕ
-wordOf key slot = key * 1048576 + slot
+wordOf key slot = key * slots + slot
 
 -- the entry says that its item is in the heap
 pub record Open (n word : ℕ) : Type 0 where
@@ -57,9 +74,9 @@ above i = (i - 1) / 4
 -- the item at each place is in the heap with that place as its slot, and each item in the heap stands at its slot
 pub record Seated (n size : ℕ) (work : List ℕ) : Type 0 where
   pub room : n + n ≤ length work
-  pub few : n ≤ 524288
+  pub few : n ≤ mostItems
   pub fits : size ≤ n
-  pub small : (c : ℕ) → c < n → keyOf (getD work c 0) ≤ 1099511627776
+  pub small : (c : ℕ) → c < n → keyOf (getD work c 0) ≤ greatestKey
   pub items : (i : ℕ) → i < size → itemAt work n i < n
   pub touched : (i : ℕ) → i < size → 0 < keyAt work n i
   pub slots : (i : ℕ) → i < size → slotOf (getD work (itemAt work n i) 0) ≡ i
@@ -96,7 +113,7 @@ pub record Taken (n size item : ℕ) (found work : List ℕ) : Type 0 where
   pub was : In found n item
   pub least : (c : ℕ) → c < n → In found n c → keyOf (getD found item 0) ≤ keyOf (getD found c 0)
   pub gone : In work n item → ⊥
-  pub slot : slotOf (getD work item 0) ≡ 1048575
+  pub slot : slotOf (getD work item 0) ≡ settledSlot
   pub keys : (c : ℕ) → c < n → keyOf (getD work c 0) ≡ keyOf (getD found c 0)
   pub stays : (c : ℕ) → c < n → (c ≡ item → ⊥) → In found n c → In work n c
   pub still : (c : ℕ) → c < n → (In found n c → ⊥) → getD work c 0 ≡ getD found c 0

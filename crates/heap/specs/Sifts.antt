@@ -11,7 +11,7 @@ use mathlib.Core.Path.{_≡_}
 use mathlib.Core.Bool.{Bool, true, false}
 use mathlib.Core.List.{List}
 use lib.ListN.{length, getD, set}
-use Rattle.heap.specs.Heaps.{keyOf, wordOf, In, itemAt, keyAt, above, Seated, Heaped}
+use Rattle.heap.specs.Heaps.{mostItems, keyOf, wordOf, In, itemAt, keyAt, above, Seated, Heaped}
 
 -- an item put at a place of the heap, with a key
 unfoldable pub placed : (work : List ℕ) → (n at item key : ℕ) → List ℕ
@@ -60,7 +60,7 @@ pub record Dropped (n size at item key : ℕ) (work : List ℕ) : Type 0 where
 -- every place but one has an item
 pub record Held (n size at : ℕ) (work : List ℕ) : Type 0 where
   pub room : n + n ≤ length work
-  pub few : n ≤ 524288
+  pub few : n ≤ mostItems
   pub fits : size ≤ n
   pub known : at < size
   pub items : (i : ℕ) → i < size → (i ≡ at → ⊥) → itemAt work n i < n
@@ -71,7 +71,7 @@ pub record Held (n size at : ℕ) (work : List ℕ) : Type 0 where
 -- they have the keys of their items
 pub record Keyed (n first end : ℕ) (work : List ℕ) : Type 0 where
   pub room : n + n ≤ length work
-  pub few : n ≤ 524288
+  pub few : n ≤ mostItems
   pub fits : end ≤ n
   pub agree : (i : ℕ) → first ≤ i → i < end → keyOf (getD work (n + i) 0) ≡ keyAt work n i
 

@@ -2,7 +2,7 @@
 ghost use mathlib.Core.Path.{_≡_};
 ghost use Prim.Native.Nat.{_+_, _≤_, _<_};
 ghost use lib.ListN.{length, getD, set};
-ghost use Rattle.heap.specs.Heaps.{keyOf, wordOf, itemAt, keyAt};
+ghost use Rattle.heap.specs.Heaps.{settledSlot, mostItems, greatestKey, keyOf, wordOf, itemAt, keyAt};
 ghost use Rattle.heap.specs.Sifts.{placed};
 
 // How many slots an entry can name.
@@ -21,7 +21,7 @@ pub fn key_of(work: &[u64], item: usize) -> u64
 
 // The item at a place.
 pub fn item_at(work: &[u64], n: usize, at: usize) -> usize
-    requires { ⌜ (n ≤ 524288) × (at < n) × (n + at < length (now work)) ⌝ }
+    requires { ⌜ (n ≤ mostItems) × (at < n) × (n + at < length (now work)) ⌝ }
     ensures { λ r. ⌜ r ≡ itemAt (now (work .entry)) n at ⌝ }
 {
     (work[n + at] % SLOTS) as usize
@@ -29,7 +29,7 @@ pub fn item_at(work: &[u64], n: usize, at: usize) -> usize
 
 // The key of the item at a place.
 pub fn key_at(work: &[u64], n: usize, at: usize) -> u64
-    requires { ⌜ (n ≤ 524288) × (at < n) × (n + at < length (now work))
+    requires { ⌜ (n ≤ mostItems) × (at < n) × (n + at < length (now work))
         × (keyOf (getD (now work) (n + at) 0) ≡ keyAt (now work) n at) ⌝ }
     ensures { λ r. ⌜ r ≡ keyAt (now (work .entry)) n at ⌝ }
 {
@@ -38,7 +38,7 @@ pub fn key_at(work: &[u64], n: usize, at: usize) -> u64
 
 // Puts an item with a key at a place: the entry and the heap's word together.
 pub fn put(work: &mut [u64], n: usize, at: usize, item: usize, key: u64)
-    requires { ⌜ (n ≤ 524288) × (n + n ≤ length (now work)) × (at < n) × (item < n) × (key ≤ 1099511627776) ⌝ }
+    requires { ⌜ (n ≤ mostItems) × (n + n ≤ length (now work)) × (at < n) × (item < n) × (key ≤ greatestKey) ⌝ }
     ensures { λ _. ⌜ now (work .exit) ≡ placed (now (work .entry)) n at item key ⌝ }
 {
     work[item] = key * SLOTS + at as u64;
@@ -47,8 +47,8 @@ pub fn put(work: &mut [u64], n: usize, at: usize, item: usize, key: u64)
 
 // Moves an item of the heap from one place to another.
 pub fn shift(work: &mut [u64], n: usize, from: usize, to: usize)
-    requires { ⌜ (n ≤ 524288) × (n + n ≤ length (now work)) × (from < n) × (to < n) × (itemAt (now work) n from < n)
-        × (keyAt (now work) n from ≤ 1099511627776) × (keyOf (getD (now work) (n + from) 0) ≡ keyAt (now work) n from) ⌝ }
+    requires { ⌜ (n ≤ mostItems) × (n + n ≤ length (now work)) × (from < n) × (to < n) × (itemAt (now work) n from < n)
+        × (keyAt (now work) n from ≤ greatestKey) × (keyOf (getD (now work) (n + from) 0) ≡ keyAt (now work) n from) ⌝ }
     ensures { λ _. ⌜ now (work .exit) ≡ placed (now (work .entry)) n to (itemAt (now (work .entry)) n from) (keyAt (now (work .entry)) n from) ⌝ }
 {
     let item = item_at(work, n, from);
@@ -58,8 +58,8 @@ pub fn shift(work: &mut [u64], n: usize, from: usize, to: usize)
 
 // Marks an item as one that has left the heap.
 pub fn settle(work: &mut [u64], item: usize)
-    requires { ⌜ (item < length (now work)) × (keyOf (getD (now work) item 0) ≤ 1099511627776) ⌝ }
-    ensures { λ _. ⌜ now (work .exit) ≡ set (now (work .entry)) item (wordOf (keyOf (getD (now (work .entry)) item 0)) 1048575) ⌝ }
+    requires { ⌜ (item < length (now work)) × (keyOf (getD (now work) item 0) ≤ greatestKey) ⌝ }
+    ensures { λ _. ⌜ now (work .exit) ≡ set (now (work .entry)) item (wordOf (keyOf (getD (now (work .entry)) item 0)) settledSlot) ⌝ }
 {
     work[item] = work[item] / SLOTS * SLOTS + SETTLED;
 }

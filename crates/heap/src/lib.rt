@@ -1,7 +1,7 @@
 // A heap of numbered items by their distances, in a slice that the caller lends. An item knows its place, so that its distance can be lowered
 // where it stands. The layout and what each function does are in specs/Heaps.antt.
 ghost use Prim.Native.Nat.{_<_};
-ghost use Rattle.heap.specs.Heaps.{Heaped, Lowered, Taken};
+ghost use Rattle.heap.specs.Heaps.{greatestKey, Heaped, Lowered, Taken};
 
 pub mod cells;
 mod sift;
@@ -15,7 +15,7 @@ use sift::sift_up;
 
 // Puts an item in, or lowers its distance; answers the heap's size. Nothing changes where the item is settled or its distance is no greater.
 pub fn lower(work: &mut [u64], n: usize, size: usize, item: usize, distance: u64) -> usize
-    requires { ⌜ (Heaped n size (now work)) × (item < n) × (distance < 1099511627776) ⌝ }
+    requires { ⌜ (Heaped n size (now work)) × (item < n) × (distance < greatestKey) ⌝ }
     ensures { λ r. ⌜ Lowered n size item distance (now (work .entry)) (now (work .exit)) r ⌝ }
 {
     let entry = work[item];
