@@ -45,8 +45,8 @@ pub fn route_records(
     before: Totals,
 ) -> Routed
     requires { ⌜ (Searched tech largest) × (Blank (techBy tech) (now work))
-        × (vertices (gridOf (tech .grid)) ≤ length (now map)) × (Pins (now pins) count) × (net < 256) × (Bounded (16 * net) before from)
-        × (Among (gridOf (tech .grid)) (now spots) (now pins) count) ⌝ }
+        × (vertices (gridOf (tech .grid)) ≤ length (now map)) × (Among (gridOf (tech .grid)) (now spots) (now pins) count) × (net < 256)
+        × (Bounded (16 * net) before from) ⌝ }
     requires { ⌜ Prepared (techBy tech) (viewBy (gridOf (tech .grid)) (now seen)) (now rates) (now ground) (now lows) (now highs) ⌝ }
     ensures answer { λ r. ⌜ ((j : Job) (k : ℕ) (s : Standing)
         → NetHere j k s tech (viewBy (gridOf (tech .grid)) (now (seen .entry))) net (take count (now (pins .entry)))

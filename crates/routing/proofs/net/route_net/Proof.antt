@@ -16,10 +16,9 @@ route-records-requires c κs =
         pre .0 .0,
         pre .0 .1,
         pre .0 .2,
-        pre .0 .3,
+        record { there = pre .0 .3; onGrid = pre .0 .6; known = λ v h is. known v h (rw ((c .before .before .before .before .begin-tree) .ensures) at is) },
         pre .0 .4,
         pre .0 .5,
-        record { there = pre .0 .3; onGrid = pre .0 .6; known = λ v h is. known v h (rw ((c .before .before .before .before .begin-tree) .ensures) at is) },
       ),
       pre .1,
     )

@@ -24,10 +24,10 @@ abbrev μ-loop : tie.MeasureT-loop
 μ-loop tech rates ground seen lows highs spots₀ map₀ largest work₀ plan₀ net pins count from totals₀ bits₀ left₀ spots map work plan totals bits left = left
 
 loop-holds : tie.Need-loop-holds Inv-loop μ-loop
-loop-holds c = (recording-begun _ _ _ _ _ _ _ _ _ ((c .before .before .before .pre) .0 .5), refl, (c .before .before .before .pre) .0 .6)
+loop-holds c = (recording-begun _ _ _ _ _ _ _ _ _ ((c .before .before .before .pre) .0 .5), refl, (c .before .before .before .pre) .0 .3)
 
 some-unjoined-requires : tie.Need-some-unjoined-requires Inv-loop μ-loop
-some-unjoined-requires c κs = (c .before .before .before .before .before .before .pre) .0 .3
+some-unjoined-requires c κs = (c .before .before .before .before .before .before .pre) .0 .3 .there
 
 with-net-requires : tie.Need-with-net-requires Inv-loop μ-loop
 with-net-requires c κs = omega (arith, (c .before .before .before .before .loop) .inv .0 .joined, (c .before .before .before .before .before .before .before .before .pre) .0 .4)
@@ -44,7 +44,7 @@ same-length-3 c = search needs
 returns : tie.Need-returns Inv-loop μ-loop
 returns c =
     let inv = (c .before .before .before .before .before .loop) .inv in
-    let (answer, fits) = recording-joined _ _ _ _ _ _ _ _ _ (inv .0) ((c .before .before .before .before .before .before .before .before .before .pre) .0 .3 .few) (sym ((c .before .before .some-unjoined) .ensures) ∙ not-true _ ((c .before .if1) .taken)) ((c .with-net) .ensures) in
+    let (answer, fits) = recording-joined _ _ _ _ _ _ _ _ _ (inv .0) ((c .before .before .before .before .before .before .before .before .before .pre) .0 .3 .there .few) (sym ((c .before .before .some-unjoined) .ensures) ∙ not-true _ ((c .before .if1) .taken)) ((c .with-net) .ensures) in
     (answer, (fits, inv .1))
 
 next-join-requires : tie.Need-next-join-requires Inv-loop μ-loop
@@ -55,7 +55,7 @@ next-join-requires c κs =
         pre .0 .0,
         rw (inv .1) (pre .0 .1),
         omega (arith, pre .0 .2, inv .0 .size),
-        omega (arith, inv .0 .bounded .reach, pre .0 .4, pre .0 .3 .few),
+        omega (arith, inv .0 .bounded .reach, pre .0 .4, pre .0 .3 .there .few),
         inv .2,
       ),
       pre .1,
@@ -65,7 +65,7 @@ enum-told : tie.Need-enum-told Inv-loop μ-loop
 enum-told c = search needs
 
 add-t34 : tie.Need-add-t34 Inv-loop μ-loop
-add-t34 c = omega (arith, (c .before .before .before .before .before .before .before .before .before .before .before .before .before .before .before .before .before .loop) .inv .0 .bounded .reach, (c .before .before .before .before .before .before .before .before .before .before .before .before .before .before .before .before .before .before .before .before .before .pre) .0 .4, (c .before .before .before .before .before .before .before .before .before .before .before .before .before .before .before .before .before .before .before .before .before .pre) .0 .3 .few)
+add-t34 c = omega (arith, (c .before .before .before .before .before .before .before .before .before .before .before .before .before .before .before .before .before .loop) .inv .0 .bounded .reach, (c .before .before .before .before .before .before .before .before .before .before .before .before .before .before .before .before .before .before .before .before .before .pre) .0 .4, (c .before .before .before .before .before .before .before .before .before .before .before .before .before .before .before .before .before .before .before .before .before .pre) .0 .3 .there .few)
 
 same-length-4 : tie.Need-same-length-4 Inv-loop μ-loop
 same-length-4 c = search needs
@@ -82,7 +82,7 @@ returns-2 c =
     let inv = (c .before .before .before .before .before .before .before .before .before .before .before .before .before .before .before .before .before .loop) .inv in
     let some = sym ((c .before .before .before .before .before .before .before .before .before .before .before .before .before .before .some-unjoined) .ensures) ∙ not-false _ ((c .before .before .before .before .before .before .before .before .before .before .before .before .before .if1) .left) in
     let (answer, (fits, (spots, (codes, (plan, (fewer, work)))))) = (c .before .before .before .before .before .before .before .before .next-join) .ensures in
-    let (routed, small) = recording-none _ _ _ _ _ _ _ _ _ (inv .0) ((c .before .before .before .before .before .before .before .before .before .before .before .before .before .before .before .before .before .before .before .before .before .pre) .0 .3 .few) ((c .before .before .before .before .before .before .before .before .before .before .before .before .before .before .before .before .loop-test) .taken) some _ _ _ _
+    let (routed, small) = recording-none _ _ _ _ _ _ _ _ _ (inv .0) ((c .before .before .before .before .before .before .before .before .before .before .before .before .before .before .before .before .before .before .before .before .before .pre) .0 .3 .there .few) ((c .before .before .before .before .before .before .before .before .before .before .before .before .before .before .before .before .loop-test) .taken) some _ _ _ _
     (λ tree unjoined marked apart. (answer tree unjoined marked apart, (spots tree unjoined marked apart, (codes tree unjoined marked apart, plan tree unjoined marked apart)))) ((c .enum-told) .given .1) in
     (routed, (small, work ∙ inv .1))
 
@@ -95,9 +95,9 @@ with-join-requires c κs =
     let fit = rw ((c .before .joined) .given .1) at ((c .before .before .before .before .before .before .before .before .before .next-join) .ensures .1 .0) in
     let b = (c .before .before .before .before .before .before .before .before .before .before .before .before .before .before .before .before .before .before .loop) .inv .0 .bounded in
     let pre = (c .before .before .before .before .before .before .before .before .before .before .before .before .before .before .before .before .before .before .before .before .before .before .pre) in (
-      omega (arith, b .cost, fit .0 .cost, pre .0 .4, pre .0 .3 .few),
-      omega (arith, b .added, fit .0 .added, pre .0 .4, pre .0 .3 .few),
-      omega (arith, b .penalties, fit .0 .penalties, pre .0 .4, pre .0 .3 .few),
+      omega (arith, b .cost, fit .0 .cost, pre .0 .4, pre .0 .3 .there .few),
+      omega (arith, b .added, fit .0 .added, pre .0 .4, pre .0 .3 .there .few),
+      omega (arith, b .penalties, fit .0 .penalties, pre .0 .4, pre .0 .3 .there .few),
     )
 
 sub-left : tie.Need-sub-left Inv-loop μ-loop
@@ -112,7 +112,7 @@ loop-again c =
     let inv = (c .before .before .before .before .before .before .before .before .before .before .before .before .before .before .before .before .before .before .before .loop) .inv in
     let some = sym ((c .before .before .before .before .before .before .before .before .before .before .before .before .before .before .before .before .some-unjoined) .ensures) ∙ not-false _ ((c .before .before .before .before .before .before .before .before .before .before .before .before .before .before .before .if1) .left) in
     let (answer, (fits, (spots, (codes, (plan, (fewer, work)))))) = (c .before .before .before .before .before .before .before .before .before .before .next-join) .ensures in (
-      recording-on _ _ _ _ _ _ _ _ _ (inv .0) ((c .before .before .before .before .before .before .before .before .before .before .before .before .before .before .before .before .before .before .before .before .before .before .before .pre) .0 .3 .few) ((c .before .before .before .before .before .before .before .before .before .before .before .before .before .before .before .before .before .before .loop-test) .taken) some _ _ _ _
+      recording-on _ _ _ _ _ _ _ _ _ (inv .0) ((c .before .before .before .before .before .before .before .before .before .before .before .before .before .before .before .before .before .before .before .before .before .before .before .pre) .0 .3 .there .few) ((c .before .before .before .before .before .before .before .before .before .before .before .before .before .before .before .before .before .before .loop-test) .taken) some _ _ _ _
           (λ tree unjoined marked apart. (answer tree unjoined marked apart, (spots tree unjoined marked apart, (codes tree unjoined marked apart, plan tree unjoined marked apart)))) fits
           ((c .before .before .before .before .before .before .before .before .before .map) .given) ((c .before .before .before .before .before .plan) .given) ((c .before .before .joined) .given .1) ((c .with-join) .ensures),
       work ∙ inv .1,
@@ -134,7 +134,7 @@ same-length-9 c = search needs
 returns-3 : tie.Need-returns-3 Inv-loop μ-loop
 returns-3 c =
     let inv = (c .before .before .loop) .inv in
-    let (answer, fits) = recording-done _ _ _ _ _ _ _ _ _ (inv .0) ((c .before .before .before .before .before .before .pre) .0 .3 .few) ((c .before .loop-test) .left) ((c .with-net2) .ensures) in
+    let (answer, fits) = recording-done _ _ _ _ _ _ _ _ _ (inv .0) ((c .before .before .before .before .before .before .pre) .0 .3 .there .few) ((c .before .loop-test) .left) ((c .with-net2) .ensures) in
     (answer, (fits, inv .1))
 
 pub route-records-spec : {M : Type 1} → statement M
