@@ -23,15 +23,20 @@ pub struct Tech {
     pub short: usize,
 }
 
+// Each list is copied before it is read at a number that is not known: apart, so that a caller pays only for the fields that it reads.
 pub fn line_at(layers: Layers, layer: usize) -> Layer
     requires { ⌜ layer < 8 ⌝ }
     ensures { λ r. ⌜ r ≡ lineAt layers layer ⌝ }
 {
+    let wires = layers.wire;
+    let vias = layers.via;
+    let leasts = layers.least;
+    let areas = layers.area;
     Layer {
-        wire: layers.wire[layer],
-        via: layers.via[layer],
-        least: layers.least[layer],
-        area: layers.area[layer],
+        wire: wires[layer],
+        via: vias[layer],
+        least: leasts[layer],
+        area: areas[layer],
     }
 }
 
@@ -61,12 +66,11 @@ pub fn base_price(tech: Tech, from: usize, into: usize, number: usize) -> usize
     requires { ⌜ (TechFits tech) × (from < vertices (gridOf (tech .grid))) × (into < vertices (gridOf (tech .grid))) ⌝ }
     ensures { λ r. ⌜ r ≡ base (techBy tech) from into number ⌝ }
 {
-    let entered = line_of(tech, into);
     if number < 2 {
-        return entered.wire;
+        return line_of(tech, into).wire;
     }
     if number == 2 {
-        return entered.via;
+        return line_of(tech, into).via;
     }
     line_of(tech, from).via
 }

@@ -5,29 +5,29 @@ use Rattle.rules.specs.Structs.{lineAt}
 use Rattle.rules.proofs.price.line_at.Statement.{statement}
 use Rattle.rules.proofs.price.line_at.Tie as tie
 
-mul-t4 : tie.Need-mul-t4
-mul-t4 c = omega (arith, c .pre)
+mul-t7 : tie.Need-mul-t7
+mul-t7 c = omega (arith, c .before .before .before .before .pre)
 
-element-copy-out-t7 : tie.Need-element-copy-out-t7
-element-copy-out-t7 c = c .pre
+array-read-t10 : tie.Need-array-read-t10
+array-read-t10 c = c .before .before .before .before .pre
 
-mul-t8 : tie.Need-mul-t8
-mul-t8 c = omega (arith, c .before .pre)
+mul-t11 : tie.Need-mul-t11
+mul-t11 c = omega (arith, c .before .before .before .before .pre)
 
-element-copy-out-t11 : tie.Need-element-copy-out-t11
-element-copy-out-t11 c = c .before .pre
+array-read-t14 : tie.Need-array-read-t14
+array-read-t14 c = c .before .before .before .before .pre
 
-mul-t12 : tie.Need-mul-t12
-mul-t12 c = omega (arith, c .before .before .pre)
+mul-t15 : tie.Need-mul-t15
+mul-t15 c = omega (arith, c .before .before .before .before .pre)
 
-element-copy-out-t15 : tie.Need-element-copy-out-t15
-element-copy-out-t15 c = c .before .before .pre
+array-read-t18 : tie.Need-array-read-t18
+array-read-t18 c = c .before .before .before .before .pre
 
-mul-t16 : tie.Need-mul-t16
-mul-t16 c = omega (arith, c .before .before .before .pre)
+mul-t19 : tie.Need-mul-t19
+mul-t19 c = omega (arith, c .before .before .before .before .pre)
 
-element-copy-out-t19 : tie.Need-element-copy-out-t19
-element-copy-out-t19 c = c .before .before .before .pre
+array-read-t22 : tie.Need-array-read-t22
+array-read-t22 c = c .before .before .before .before .pre
 
 returns : tie.Need-returns
 unfolding lineAt
@@ -35,4 +35,4 @@ returns c = refl
 
 pub line-at-spec : {M : Type 1} → statement M
 line-at-spec =
-    tie.close (tie.spec mul-t4 element-copy-out-t7 mul-t8 element-copy-out-t11 mul-t12 element-copy-out-t15 mul-t16 element-copy-out-t19 returns)
+    tie.close (tie.spec mul-t7 array-read-t10 mul-t11 array-read-t14 mul-t15 array-read-t18 mul-t19 array-read-t22 returns)
