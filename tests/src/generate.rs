@@ -10,7 +10,7 @@ pub mod large;
 pub mod routable;
 
 use crate::grid::{vertex, Grid, Vertex, MOST_COLUMNS, MOST_LAYERS, MOST_ROWS, MOST_VERTICES};
-use crate::job::{GuideBox, Job, Layer, Net, Obstacle, CLOSED, EDITION, MOST_BOXES, MOST_PINS};
+use crate::job::{GuideBox, Job, Layer, Net, Obstacle, CLOSED, MOST_BOXES, MOST_PINS};
 use crate::random::Random;
 
 pub fn good_job(random: &mut Random) -> Job {
@@ -18,15 +18,12 @@ pub fn good_job(random: &mut Random) -> Job {
     let obstacles = obstacles(&grid, random);
     let nets = nets(&grid, &obstacles, random);
     Job {
-        edition: EDITION,
-        direction: grid.direction,
-        columns: grid.columns,
-        rows: grid.rows,
         guide_penalty: penalty(random),
         short_penalty: penalty(random),
         layers: layers(grid.layers, random),
         obstacles,
         nets,
+        ..Job::on(&grid)
     }
 }
 

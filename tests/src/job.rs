@@ -60,6 +60,21 @@ pub struct Job {
 }
 
 impl Job {
+    /// A job on a grid, without layers, prices, obstacles and nets.
+    pub fn on(grid: &Grid) -> Self {
+        Job {
+            edition: EDITION,
+            direction: grid.direction,
+            columns: grid.columns,
+            rows: grid.rows,
+            guide_penalty: 0,
+            short_penalty: 0,
+            layers: Vec::new(),
+            obstacles: Vec::new(),
+            nets: Vec::new(),
+        }
+    }
+
     pub fn grid(&self) -> Grid {
         Grid {
             layers: self.layers.len() as u32,

@@ -2,8 +2,7 @@
 
 use crate::grid::{vertex, Grid, Vertex};
 use crate::job::{
-    GuideBox, Job, Layer, Net, Obstacle, CLOSED, EDITION, MOST_BOXES, MOST_NETS, MOST_OBSTACLES,
-    MOST_PINS,
+    GuideBox, Job, Layer, Net, Obstacle, CLOSED, MOST_BOXES, MOST_NETS, MOST_OBSTACLES, MOST_PINS,
 };
 use crate::random::Random;
 
@@ -23,15 +22,12 @@ pub fn largest_job(random: &mut Random) -> Job {
         obstacles.push(obstacle(random));
     }
     Job {
-        edition: EDITION,
-        direction: GRID.direction,
-        columns: GRID.columns,
-        rows: GRID.rows,
         guide_penalty: CLOSED,
         short_penalty: CLOSED,
         layers: (0..GRID.layers).map(layer).collect(),
         obstacles,
         nets: (0..MOST_NETS).map(net).collect(),
+        ..Job::on(&GRID)
     }
 }
 

@@ -3,7 +3,7 @@
 use super::free_vertices;
 use super::routable::box_around;
 use crate::grid::{Grid, Vertex};
-use crate::job::{Job, Layer, Net, EDITION};
+use crate::job::{Job, Layer, Net};
 use crate::random::Random;
 
 const SEED: u64 = 64_640;
@@ -60,17 +60,13 @@ fn job(layers: u32, lines: (u32, u32), min_length: u32, nets: u32, local: Option
         }
     };
     Job {
-        edition: EDITION,
-        direction: grid.direction,
-        columns: grid.columns,
-        rows: grid.rows,
         guide_penalty: 10,
         short_penalty: 40,
         nets: (0..nets).map(net).collect(),
         layers: (1..=layers)
             .map(|count| layer(count == layers, min_length))
             .collect(),
-        obstacles: Vec::new(),
+        ..Job::on(&grid)
     }
 }
 

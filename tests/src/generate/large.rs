@@ -3,7 +3,7 @@
 use super::routable::{close_layers, priced, Size};
 use super::{free_vertices, layers, some_nets, some_obstacles};
 use crate::grid::Grid;
-use crate::job::{Job, EDITION};
+use crate::job::Job;
 use crate::random::Random;
 
 /// Layers, rows and columns.
@@ -53,15 +53,12 @@ pub fn large_job(number: u32, random: &mut Random) -> Job {
     }
     let nets = random.between(1, 3);
     Job {
-        edition: EDITION,
-        direction: grid.direction,
-        columns: grid.columns,
-        rows: grid.rows,
         guide_penalty: priced(close, 12, random),
         short_penalty: priced(close, 12, random),
         layers,
         obstacles,
         nets: some_nets(nets, 3, &mut free, &grid, random),
+        ..Job::on(&grid)
     }
 }
 

@@ -3,7 +3,7 @@
 
 use super::{free_vertices, good_job, layers, penalty, some_nets, some_obstacles};
 use crate::grid::{vertex, Grid, Vertex, MOST_LAYERS};
-use crate::job::{GuideBox, Job, Layer, Net, Obstacle, CLOSED, EDITION, MOST_PINS};
+use crate::job::{GuideBox, Job, Layer, Net, Obstacle, CLOSED, MOST_PINS};
 use crate::random::Random;
 
 #[derive(Clone, Copy, Debug, PartialEq, Eq)]
@@ -45,10 +45,6 @@ pub fn routable_job(size: Size, random: &mut Random) -> Job {
     let nets = nets(size, &grid, &obstacles, random);
     let close = !random.one_in(4);
     Job {
-        edition: EDITION,
-        direction: grid.direction,
-        columns: grid.columns,
-        rows: grid.rows,
         guide_penalty: priced(close, 12, random),
         short_penalty: priced(close, 12, random),
         layers: if close {
@@ -58,6 +54,7 @@ pub fn routable_job(size: Size, random: &mut Random) -> Job {
         },
         obstacles,
         nets,
+        ..Job::on(&grid)
     }
 }
 
