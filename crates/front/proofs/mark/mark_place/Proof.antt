@@ -34,7 +34,7 @@ returns c =
     answered-not (asked-not (pre .3) (λ e is. omega (arith, told e is, (c .if1) .taken)))
 
 put-mark-requires : tie.Need-put-mark-requires
-put-mark-requires c κs = (omega (arith, (c .before .before .before .before .before .before .pre) .0 .1, (c .before .before .before .before .before .before .pre) .0 .2), (c .before .before .before .before .before .before .pre) .0 .5, (c .before .if1) .left)
+put-mark-requires c κs = (omega (arith, (c .before .before .before .before .before .before .pre) .0 .1, (c .before .before .before .before .before .before .pre) .0 .2), (c .before .before .before .before .before .before .pre) .0 .5, omega (arith, (c .before .if1) .left))
 
 light-requires : tie.Need-light-requires
 unfolding techBy
