@@ -116,28 +116,76 @@ fn differ(counts: &[u8; 16384], seen: &[u8; 16384], of: usize, next: usize, many
     found
 }
 
-// The same for any number, 32 at a time. The last 32 may begin among those before them: else up to 31 would be compared one by one.
-fn any_differ(counts: &[u8; 16384], seen: &[u8; 16384], of: usize, next: usize, many: usize) -> bool
+// The same of a row, 32 at a time. The last 32 may begin among those before them: else up to 31 would be compared one by one.
+fn row_differs(
+    counts: &[u8; 16384],
+    seen: &[u8; 16384],
+    of: usize,
+    next: usize,
+    many: usize,
+) -> bool
     requires { ⌜ (of + many ≤ 16384) × (next + many ≤ 16384) ⌝ }
     ensures { λ r. ⌜ (r ≡ false → Told (now (counts .entry)) (now (seen .entry)) of next many) ⌝ }
 {
     if many < 32 {
         return differ(counts, seen, of, next, many);
     }
+    let last = many - 32;
     let mut i: usize = 0;
-    while i + 32 <= many {
+    while i < last {
         if differ(counts, seen, of + i, next + i, 32) {
             return true;
         }
         i += 32;
     }
-    let last = many - 32;
     differ(counts, seen, of + last, next + last, 32)
 }
 
-// Whether the counts of whole tracks were made for what is seen now. The low counts tell of all vertices but the last of each track, the high
-// ones of those. Of a track of one vertex nothing is told.
-fn stand(
+// The same of a layer, 512 at a time, as a change is often seen long before the last.
+fn layer_differs(
+    counts: &[u8; 16384],
+    seen: &[u8; 16384],
+    of: usize,
+    next: usize,
+    many: usize,
+) -> bool
+    requires { ⌜ (of + many ≤ 16384) × (next + many ≤ 16384) ⌝ }
+    ensures { λ r. ⌜ (r ≡ false → Told (now (counts .entry)) (now (seen .entry)) of next many) ⌝ }
+{
+    let mut i: usize = 0;
+    while i + 512 <= many {
+        if differ(counts, seen, of + i, next + i, 512) {
+            return true;
+        }
+        i += 512;
+    }
+    differ(counts, seen, of + i, next + i, many - i)
+}
+
+// Whether the counts of a row were made for what is seen now. The low counts tell of all vertices but the last, the high ones of that. Of a
+// track of one vertex nothing is told.
+fn row_stands(
+    lows: &[u8; 16384],
+    highs: &[u8; 16384],
+    seen: &[u8; 16384],
+    from: usize,
+    to: usize,
+) -> bool
+    requires { ⌜ (from < to) × (to ≤ 16384) ⌝ }
+    ensures { λ r. ⌜ (r ≡ true → BlockRenewed (now (seen .entry)) (now (lows .entry)) (now (highs .entry)) (now (lows .entry)) (now (highs .entry)) from to 1) ⌝ }
+{
+    if to - from < 2 {
+        return false;
+    }
+    let last = to - 1;
+    if row_differs(lows, seen, from + 1, from, last - from) {
+        return false;
+    }
+    !differ(highs, seen, last - 1, last, 1)
+}
+
+// The same of a layer whose tracks run across its rows: the last row has the last of each track.
+fn layer_stands(
     lows: &[u8; 16384],
     highs: &[u8; 16384],
     seen: &[u8; 16384],
@@ -152,7 +200,7 @@ fn stand(
         return false;
     }
     let last = to - back;
-    if any_differ(lows, seen, from + back, from, last - from) {
+    if layer_differs(lows, seen, from + back, from, last - from) {
         return false;
     }
     !differ(highs, seen, last - back, last, back)
@@ -169,7 +217,7 @@ fn row_runs(
     requires { ⌜ (from < to) × (to ≤ 16384) ⌝ }
     ensures { λ _. ⌜ BlockRenewed (now (seen .entry)) (now (lows .entry)) (now (highs .entry)) (now (lows .exit)) (now (highs .exit)) from to 1 ⌝ }
 {
-    if stand(lows, highs, seen, from, to, 1) {
+    if row_stands(lows, highs, seen, from, to) {
         return;
     }
     row_low(lows, seen, from, to);
@@ -188,7 +236,7 @@ fn across_runs(
     requires { ⌜ (0 < rows) × (0 < columns) × (from + rows * columns ≤ 16384) ⌝ }
     ensures { λ _. ⌜ BlockRenewed (now (seen .entry)) (now (lows .entry)) (now (highs .entry)) (now (lows .exit)) (now (highs .exit)) from (from + rows * columns) columns ⌝ }
 {
-    if stand(lows, highs, seen, from, from + rows * columns, columns) {
+    if layer_stands(lows, highs, seen, from, from + rows * columns, columns) {
         return;
     }
     across_low(lows, seen, from, rows, columns);

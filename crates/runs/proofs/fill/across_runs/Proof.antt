@@ -4,19 +4,19 @@ use Rattle.runs.proofs.Passes.{first-fits}
 use Rattle.runs.proofs.fill.across_runs.Statement.{statement}
 use Rattle.runs.proofs.fill.across_runs.Tie as tie
 
-mul-stand : tie.Need-mul-stand
-mul-stand c = omega (arith, c .before .before .pre .2)
+mul-layer-stands : tie.Need-mul-layer-stands
+mul-layer-stands c = omega (arith, c .before .before .pre .2)
 
-add-stand : tie.Need-add-stand
-add-stand c = omega (arith, c .before .before .pre .2)
+add-layer-stands : tie.Need-add-layer-stands
+add-layer-stands c = omega (arith, c .before .before .pre .2)
 
-stand-requires : tie.Need-stand-requires
-stand-requires c κs =
+layer-stands-requires : tie.Need-layer-stands-requires
+layer-stands-requires c κs =
     let s = c .before .before in
     (omega (arith, first-fits (s .args .from) (s .args .columns) (s .pre .0)), s .pre .2)
 
 returns : tie.Need-returns
-returns c = c .before .stand .ensures (c .if1 .taken)
+returns c = c .before .layer-stands .ensures (c .if1 .taken)
 
 across-low-requires : tie.Need-across-low-requires
 across-low-requires c κs = c .before .before .before .before .before .pre
@@ -28,4 +28,4 @@ returns-2 : tie.Need-returns-2
 returns-2 c g block before lower higher = (c .before .before .across-low .ensures g block, c .across-high .ensures g block)
 
 pub across-runs-spec : {M : Type 1} → statement M
-across-runs-spec = tie.close (tie.spec mul-stand add-stand stand-requires returns across-low-requires across-high-requires returns-2)
+across-runs-spec = tie.close (tie.spec mul-layer-stands add-layer-stands layer-stands-requires returns across-low-requires across-high-requires returns-2)
