@@ -1,6 +1,6 @@
 -- Tables that are filled place by place.
 --     Filled, filled-none, filled-turn        the first n places from one on have their numbers
---     ground-filled, extras-filled            all places of the two tables of vertices and of flags
+--     extras-filled, extras-kept              all places of the table of flags, and the layers before it
 --     sets-before, sets-at                    numbers put in a row: the places before it, and its own
 --     LinesSoFar, lines-none, lines-turn      the first n layers have their numbers
 --     rates-filled                            all of them, for a job
@@ -12,7 +12,6 @@ use native.Mathlib.Nat.{not-suc-le-zero, le-of-suc-le-suc}
 use native.Mathlib.Omega.{arith}
 use lib.ListN.{length, getD, set, length-set}
 use lib.Seq.{sets, length-sets, getD-set-same, getD-set-other}
-use Rattle.job.specs.Grid.{Grid, vertices}
 use Rattle.job.specs.declared.groups.Layer.{Layer as LayerStruct}
 use Rattle.job.specs.declared.layers.Layers.{Layers}
 use Rattle.rules.specs.Prices.{charge}
@@ -20,7 +19,6 @@ use Rattle.rules.specs.Structs.{lineAt, lineRecord, TechFits, techBy}
 use Rattle.rules.specs.declared.price.Tech.{Tech as TechStruct}
 use Rattle.rules.proofs.Fitting.{fits}
 use Rattle.rules.proofs.Held.{on-grid, line-held}
-use Rattle.tables.specs.Grounds.{groundByte, Ground}
 use Rattle.tables.specs.Rates.{rateOf, LineHeld, lineNumbers, LinesTo, extraBy, ExtrasTo, SameLines, Rates}
 
 -- ---- one number for each place
@@ -55,13 +53,6 @@ module _ (f : ℕ → ℕ) (from : ℕ) (found : List ℕ) where
               let place : from + k ≡ at = omega (arith, same, here) in
               let there : at < length table = omega (arith, room, so-far .size) in
               ap (λ (i : ℕ). getD (set table at value) i 0) place ∙ getD-set-same table at value 0 there ∙ is ∙ ap f (sym same)
-
--- all vertices have their bytes
-pub ground-filled : (g : Grid) {found ground : List ℕ} {n : ℕ} → Filled (groundByte g) 0 found ground n → vertices g ≤ n → Ground g ground
-unfolding Ground
-ground-filled g {ground = ground} all done v on =
-    let first : v ≡ 0 + v = omega arith in
-    ap (λ (i : ℕ). getD ground i 0) first ∙ all .done v (omega (arith, done, on))
 
 -- all flags have their numbers
 pub extras-filled : (guide short : ℕ) {found rates : List ℕ} {n : ℕ}

@@ -1,38 +1,28 @@
 -- `tables::ground::ground_of` meets its contract.
-use mathlib.Core.Path.{refl}
 use native.Mathlib.Omega.{arith}
 use borrow.Author.Needs.{needs}
-use Rattle.rules.proofs.Fitting.{fits, one-more, track-read}
-use Rattle.tables.specs.Grounds.{groundByte}
+use Rattle.job.specs.Structs.{gridOf, vertexOf}
+use Rattle.job.proofs.Grids.{Below}
+use Rattle.tables.proofs.Rows.{vertex-read, byte-read}
 use Rattle.tables.proofs.ground.ground_of.Statement.{statement}
 use Rattle.tables.proofs.ground.ground_of.Tie as tie
 
-vertex-by-requires : tie.Need-vertex-by-requires
-vertex-by-requires c κs = c .pre
-
 track-of-requires : tie.Need-track-of-requires
-track-of-requires c κs =
-    (c .before .pre .small, rw (c .vertex-by .ensures) (fits (c .before .args .grid) (c .before .args .v) (c .before .pre) .layer))
+track-of-requires c κs = (c .pre .0, omega (arith, c .pre .0 .layers, c .pre .1))
 
 cast-result : tie.Need-cast-result
-cast-result c =
-    let read = track-read (c .before .before .before .args .grid) (c .before .before .before .args .v) (c .before .before .before .pre) (c .before .before .vertex-by .ensures) (c .before .track-of .ensures) in
-    let small = fits (c .before .before .before .args .grid) (c .before .before .before .args .v) (c .before .before .before .pre) in
-    omega (arith, read .layer, small .layer)
+cast-result c = let s = c .before .before in omega (arith, s .pre .0 .layers, s .pre .1)
 
 flag-requires : tie.Need-flag-requires
 flag-requires c κs = search needs
 
 add-result : tie.Need-add-result
-add-result c =
-    let read = track-read (c .before .before .before .before .before .args .grid) (c .before .before .before .before .before .args .v) (c .before .before .before .before .before .pre) (c .before .before .before .before .vertex-by .ensures) (c .before .before .before .track-of .ensures) in
-    let small = fits (c .before .before .before .before .before .args .grid) (c .before .before .before .before .before .args .v) (c .before .before .before .before .before .pre) in
-    omega (arith, read .layer, small .layer, c .flag .ensures .1)
+add-result c = let s = c .before .before .before .before in omega (arith, s .pre .0 .layers, s .pre .1, c .flag .ensures .1)
 
 add-flag : tie.Need-add-flag
 add-flag c =
-    let read = track-read (c .before .before .before .before .before .before .args .grid) (c .before .before .before .before .before .before .args .v) (c .before .before .before .before .before .before .pre) (c .before .before .before .before .before .vertex-by .ensures) (c .before .before .before .before .track-of .ensures) in
-    let small = fits (c .before .before .before .before .before .before .args .grid) (c .before .before .before .before .before .before .args .v) (c .before .before .before .before .before .before .pre) in
+    let s = c .before .before .before .before .before in
+    let read = vertex-read (s .args .grid) (s .pre .0) (record { layer = s .pre .1; row = s .pre .2; column = s .pre .3 }) (c .before .before .before .before .track-of .ensures) in
     omega (arith, read .placeFits)
 
 flag-requires-2 : tie.Need-flag-requires-2
@@ -40,16 +30,15 @@ flag-requires-2 c κs = search needs
 
 add-result-2 : tie.Need-add-result-2
 add-result-2 c =
-    let read = track-read (c .before .before .before .before .before .before .before .before .args .grid) (c .before .before .before .before .before .before .before .before .args .v) (c .before .before .before .before .before .before .before .before .pre) (c .before .before .before .before .before .before .before .vertex-by .ensures) (c .before .before .before .before .before .before .track-of .ensures) in
-    let small = fits (c .before .before .before .before .before .before .before .before .args .grid) (c .before .before .before .before .before .before .before .before .args .v) (c .before .before .before .before .before .before .before .before .pre) in
-    omega (arith, read .layer, small .layer, c .before .before .before .flag .ensures .1, c .flag2 .ensures .1)
+    let s = c .before .before .before .before .before .before .before in
+    omega (arith, s .pre .0 .layers, s .pre .1, c .before .before .before .flag .ensures .1, c .flag2 .ensures .1)
 
 returns : tie.Need-returns
-unfolding groundByte
 returns c =
-    let read = track-read (c .before .before .before .before .before .before .before .before .args .grid) (c .before .before .before .before .before .before .before .before .args .v) (c .before .before .before .before .before .before .before .before .pre) (c .before .before .before .before .before .before .before .vertex-by .ensures) (c .before .before .before .before .before .before .track-of .ensures) in
-    let small = fits (c .before .before .before .before .before .before .before .before .args .grid) (c .before .before .before .before .before .before .before .before .args .v) (c .before .before .before .before .before .before .before .before .pre) in
-    rw (c .before .before .before .flag .ensures .0, c .flag2 .ensures .0, read .layer, read .place, one-more, read .length) refl
+    let s = c .before .before .before .before .before .before .before in
+    let below : Below (gridOf (s .args .grid)) (vertexOf (s .args .from)) = record { layer = s .pre .1; row = s .pre .2; column = s .pre .3 } in
+    byte-read (s .args .grid) (vertex-read (s .args .grid) (s .pre .0) below (c .before .before .before .before .before .before .track-of .ensures))
+    (c .before .before .before .flag .ensures .0) (c .flag2 .ensures .0)
 
 pub ground-of-spec : {M : Type 1} → statement M
-ground-of-spec = tie.close (tie.spec vertex-by-requires track-of-requires cast-result flag-requires add-result add-flag flag-requires-2 add-result-2 returns)
+ground-of-spec = tie.close (tie.spec track-of-requires cast-result flag-requires add-result add-flag flag-requires-2 add-result-2 returns)
