@@ -1,8 +1,9 @@
 // The clear runs of every vertex, low and high along its track: a byte for each, at most 255. From net to net few vertices change between
 // clear and not clear, so only tracks with a change are counted again, span by span: no vertex is taken apart into its layer, row and column.
 ghost use mathlib.Core.Path.{_≡_};
+ghost use mathlib.Core.List.{List};
 ghost use mathlib.Core.Bool.{true, false};
-ghost use Prim.Native.Nat.{_+_, _*_, _<_, _≤_};
+ghost use Prim.Native.Nat.{ℕ, _+_, _-_, _*_, _<_, _≤_};
 ghost use lib.ListN.{length};
 ghost use Rattle.job.specs.Structs.{Sized, gridOf};
 ghost use Rattle.rules.specs.Segments.{low, high};
@@ -116,14 +117,8 @@ fn differ(counts: &[u8; 16384], seen: &[u8; 16384], of: usize, next: usize, many
     found
 }
 
-// The same of a row, 32 at a time. The last 32 may begin among those before them: else up to 31 would be compared one by one.
-fn row_differs(
-    counts: &[u8; 16384],
-    seen: &[u8; 16384],
-    of: usize,
-    next: usize,
-    many: usize,
-) -> bool
+// The same for any number, 32 at a time. The last 32 may begin among those before them: else up to 31 would be compared one by one.
+fn any_differ(counts: &[u8; 16384], seen: &[u8; 16384], of: usize, next: usize, many: usize) -> bool
     requires { ⌜ (of + many ≤ 16384) × (next + many ≤ 16384) ⌝ }
     ensures { λ r. ⌜ (r ≡ false → Told (now (counts .entry)) (now (seen .entry)) of next many) ⌝ }
 {
@@ -141,68 +136,17 @@ fn row_differs(
     differ(counts, seen, of + last, next + last, 32)
 }
 
-// The same of a layer, 512 at a time, as a change is often seen long before the last.
-fn layer_differs(
-    counts: &[u8; 16384],
-    seen: &[u8; 16384],
-    of: usize,
-    next: usize,
-    many: usize,
-) -> bool
-    requires { ⌜ (of + many ≤ 16384) × (next + many ≤ 16384) ⌝ }
-    ensures { λ r. ⌜ (r ≡ false → Told (now (counts .entry)) (now (seen .entry)) of next many) ⌝ }
-{
-    let mut i: usize = 0;
-    while i + 512 <= many {
-        if differ(counts, seen, of + i, next + i, 512) {
-            return true;
-        }
-        i += 512;
-    }
-    differ(counts, seen, of + i, next + i, many - i)
-}
-
-// Whether the counts of a row were made for what is seen now. The low counts tell of all vertices but the last, the high ones of that. Of a
-// track of one vertex nothing is told.
-fn row_stands(
-    lows: &[u8; 16384],
-    highs: &[u8; 16384],
-    seen: &[u8; 16384],
-    from: usize,
-    to: usize,
-) -> bool
-    requires { ⌜ (from < to) × (to ≤ 16384) ⌝ }
-    ensures { λ r. ⌜ (r ≡ true → BlockRenewed (now (seen .entry)) (now (lows .entry)) (now (highs .entry)) (now (lows .entry)) (now (highs .entry)) from to 1) ⌝ }
-{
-    if to - from < 2 {
-        return false;
-    }
-    let last = to - 1;
-    if row_differs(lows, seen, from + 1, from, last - from) {
-        return false;
-    }
-    !differ(highs, seen, last - 1, last, 1)
-}
-
-// The same of a layer whose tracks run across its rows: the last row has the last of each track.
-fn layer_stands(
-    lows: &[u8; 16384],
-    highs: &[u8; 16384],
-    seen: &[u8; 16384],
-    from: usize,
-    to: usize,
-    back: usize,
-) -> bool
+// Whether the counts of whole tracks were made for what is seen now, where the low ones were. These tell of all vertices but the last of each
+// track, the high ones of those. Of a track of one vertex nothing is told.
+fn high_stand(highs: &[u8; 16384], seen: &[u8; 16384], from: usize, to: usize, back: usize) -> bool
     requires { ⌜ (from + back ≤ to) × (to ≤ 16384) ⌝ }
-    ensures { λ r. ⌜ (r ≡ true → BlockRenewed (now (seen .entry)) (now (lows .entry)) (now (highs .entry)) (now (lows .entry)) (now (highs .entry)) from to back) ⌝ }
+    ensures { λ r. ⌜ ((lows : List ℕ) → r ≡ true → Told lows (now (seen .entry)) (from + back) from (to - back - from)
+        → BlockRenewed (now (seen .entry)) lows (now (highs .entry)) lows (now (highs .entry)) from to back) ⌝ }
 {
     if to - from < back + back {
         return false;
     }
     let last = to - back;
-    if layer_differs(lows, seen, from + back, from, last - from) {
-        return false;
-    }
     !differ(highs, seen, last - back, last, back)
 }
 
@@ -217,8 +161,10 @@ fn row_runs(
     requires { ⌜ (from < to) × (to ≤ 16384) ⌝ }
     ensures { λ _. ⌜ BlockRenewed (now (seen .entry)) (now (lows .entry)) (now (highs .entry)) (now (lows .exit)) (now (highs .exit)) from to 1 ⌝ }
 {
-    if row_stands(lows, highs, seen, from, to) {
-        return;
+    if !any_differ(lows, seen, from + 1, from, to - 1 - from) {
+        if high_stand(highs, seen, from, to, 1) {
+            return;
+        }
     }
     row_low(lows, seen, from, to);
     row_high(highs, seen, from, to);
@@ -236,8 +182,11 @@ fn across_runs(
     requires { ⌜ (0 < rows) × (0 < columns) × (from + rows * columns ≤ 16384) ⌝ }
     ensures { λ _. ⌜ BlockRenewed (now (seen .entry)) (now (lows .entry)) (now (highs .entry)) (now (lows .exit)) (now (highs .exit)) from (from + rows * columns) columns ⌝ }
 {
-    if layer_stands(lows, highs, seen, from, from + rows * columns, columns) {
-        return;
+    let to = from + rows * columns;
+    if !any_differ(lows, seen, from + columns, from, to - columns - from) {
+        if high_stand(highs, seen, from, to, columns) {
+            return;
+        }
     }
     across_low(lows, seen, from, rows, columns);
     across_high(highs, seen, from, rows, columns);

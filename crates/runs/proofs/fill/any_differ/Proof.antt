@@ -1,11 +1,11 @@
--- `runs::fill::row_differs` meets its contract: the counts tell of all bytes so far, and the last 32 reach back to these.
+-- `runs::fill::any_differ` meets its contract: the counts tell of all bytes so far, and the last 32 reach back to these.
 use Prim.Native.Nat.{ℕ, _-_, _≤_}
 use mathlib.Core.Path.{_≡_}
 use native.Mathlib.Omega.{arith}
 use Rattle.runs.specs.Runs.{Told}
 use Rattle.runs.proofs.Blocks.{told-none, told-on}
-use Rattle.runs.proofs.fill.row_differs.Statement.{statement}
-use Rattle.runs.proofs.fill.row_differs.Tie as tie
+use Rattle.runs.proofs.fill.any_differ.Statement.{statement}
+use Rattle.runs.proofs.fill.any_differ.Tie as tie
 
 abbrev Inv-loop : tie.InvT-loop
 Inv-loop counts seen of next many last i₀ i = (i ≤ many) × Told counts seen of next i
@@ -59,7 +59,7 @@ returns-3 c none =
     let (within, told) = c .before .before .loop .inv in
     told-on _ _ _ _ 32 told (c .differ3 .ensures none) (omega arith) (omega arith)
 
-pub row-differs-spec : {M : Type 1} → statement M
-row-differs-spec =
+pub any-differ-spec : {M : Type 1} → statement M
+any-differ-spec =
     tie.close (tie.spec Inv-loop μ-loop differ-requires returns loop-holds add-differ add-differ-2 differ-requires-2 returns-2 add-i
     loop-less loop-again add-differ-3 add-differ-4 differ-requires-3 returns-3)
