@@ -5,7 +5,7 @@
 --     count-tells                        a count is not 0 where the neighbour is clear
 --     beyond-same                        a count depends on the flags of the track alone
 --     none-clear                         counts of 0 are those of a view in which nothing is clear
-use Prim.Native.Nat.{ℕ, zero, suc, _+_, _≤_, _<_}
+use Prim.Native.Nat.{ℕ, zero, suc, _+_, _≤_, _<_, min}
 use mathlib.Core.Path.{_≡_, refl, sym, ap, _∙_}
 use mathlib.Core.Bool.{Bool, true, false, not}
 use native.Mathlib.Nat.{not-suc-le-zero, le-of-suc-le-suc}
@@ -18,7 +18,7 @@ use Rattle.rules.specs.Tracks.{Entered, outside, at, entered}
 use Rattle.rules.specs.Views.{View}
 use Rattle.rules.specs.Segments.{Direction, low, high}
 use Rattle.rules.specs.Overheads.{clear, toward, onFrom, clearRun}
-use Rattle.runs.specs.Runs.{lesser, runBeyond, Counted, SomeView}
+use Rattle.runs.specs.Runs.{runBeyond, Counted, SomeView}
 
 module _ (g : Grid) (view : View) (d : Direction) where
   abbrev run : (k v : ℕ) → ℕ
@@ -44,17 +44,17 @@ module _ (g : Grid) (view : View) (d : Direction) where
       run-on k is-clear = rw (e, is-clear, onFrom) refl
 
   -- a shorter run is the lesser of what was asked and a longer run
-  pub run-lesser : (k n v : ℕ) → k ≤ n → run k v ≡ lesser k (run n v)
+  pub run-lesser : (k n v : ℕ) → k ≤ n → run k v ≡ min k (run n v)
   unfolding clearRun
   run-lesser zero n v h = omega arith
   run-lesser (suc k) zero v h = absurd (not-suc-le-zero h)
   run-lesser (suc k) (suc n) v h = by (entered g v (toward d)) refl (λ w. run-lesser k n w (le-of-suc-le-suc h))
     where
-      by : (x : Entered) → entered g v (toward d) ≡ x → ((w : ℕ) → run k w ≡ lesser k (run n w)) → run (suc k) v ≡ lesser (suc k) (run (suc n) v)
+      by : (x : Entered) → entered g v (toward d) ≡ x → ((w : ℕ) → run k w ≡ min k (run n w)) → run (suc k) v ≡ min (suc k) (run (suc n) v)
       by outside e rest = omega (arith, run-outside v (suc k) e, run-outside v (suc n) e)
       by (at w) e rest = on (clear view w) refl
         where
-          on : (b : Bool) → clear view w ≡ b → run (suc k) v ≡ lesser (suc k) (run (suc n) v)
+          on : (b : Bool) → clear view w ≡ b → run (suc k) v ≡ min (suc k) (run (suc n) v)
           on true c = omega (arith, run-on v e k c, run-on v e n c, rest w)
           on false c = omega (arith, run-unclear v e (suc k) c, run-unclear v e (suc n) c)
 
@@ -69,10 +69,10 @@ module _ (g : Grid) (view : View) (d : Direction) where
       unfolding runBeyond
       beyond-unclear unclear = sym (run-unclear v e 255 unclear)
 
-      pub beyond-on : clear view w ≡ true → lesser 255 (runBeyond g view d w + 1) ≡ runBeyond g view d v
+      pub beyond-on : clear view w ≡ true → min 255 (runBeyond g view d w + 1) ≡ runBeyond g view d v
       unfolding runBeyond
       beyond-on is-clear =
-          let last : run 254 w ≡ lesser 254 (run 255 w) = run-lesser 254 255 w (omega arith) in
+          let last : run 254 w ≡ min 254 (run 255 w) = run-lesser 254 255 w (omega arith) in
           omega (arith, run-on v e 254 is-clear, last)
 
       -- a count is not 0 where the neighbour is clear

@@ -7,7 +7,7 @@
 --     LowPass, low-begin, -turn, -end       a span of low counts is made upward
 --     HighPass, high-begin, -turn, -end     one of high counts downward
 --     Baring, bared-begin, -turn, -end      a span of counts is made 0
-use Prim.Native.Nat.{ℕ, zero, suc, _+_, _-_, _*_, _/_, _%_, _≤_, _<_}
+use Prim.Native.Nat.{ℕ, zero, suc, _+_, _-_, _*_, _/_, _%_, _≤_, _<_, min}
 use mathlib.Core.Path.{_≡_, refl, sym, ap, subst, _∙_}
 use mathlib.Core.List.{List, [], _∷_}
 use mathlib.Core.Bool.{Bool, true, false}
@@ -26,7 +26,7 @@ use Rattle.rules.specs.Overheads.{clear, toward}
 use Rattle.rules.specs.Seen.{holds, clearByte, viewBy}
 use Rattle.rules.proofs.Neighbours.{entered-below}
 use Rattle.rules.proofs.Held.{seen-clear}
-use Rattle.runs.specs.Runs.{lesser, runBeyond, CountedIn, oneMore, beside, Span, Kept, LowMade, HighMade, Bared}
+use Rattle.runs.specs.Runs.{runBeyond, CountedIn, oneMore, beside, Span, Kept, LowMade, HighMade, Bared}
 use Rattle.runs.proofs.Counts.{beyond-unclear, beyond-on}
 
 -- ---- a count from the neighbour's
@@ -57,7 +57,7 @@ module _ (count byte : ℕ) where
   more-none some = let off = clear-byte byte ∙ ne-eqb (byte % 4) 0 some in rw off refl
 
   -- it is clear
-  pub more-one : byte % 4 ≡ 0 → lesser 255 (count + 1) ≡ oneMore count byte
+  pub more-one : byte % 4 ≡ 0 → min 255 (count + 1) ≡ oneMore count byte
   unfolding oneMore
   more-one none = let on = clear-byte byte ∙ eq-eqb (byte % 4) 0 none in rw on refl
 
@@ -70,7 +70,7 @@ module _ (g : Grid) (seen : List ℕ) (d : Direction) {v w : ℕ} (on : v < vert
       told = seen-clear g seen w (entered-below g (toward d) on e)
 
       by : (b : Bool) → clearByte (getD seen w 0) ≡ b → oneMore count (getD seen w 0) ≡ runBeyond g (viewBy g seen) d v
-      by true c = rw c (ap (λ (n : ℕ). lesser 255 (n + 1)) is ∙ beyond-on g (viewBy g seen) d v e (told ∙ c))
+      by true c = rw c (ap (λ (n : ℕ). min 255 (n + 1)) is ∙ beyond-on g (viewBy g seen) d v e (told ∙ c))
       by false c = rw c (beyond-unclear g (viewBy g seen) d v e (told ∙ c))
 
 -- ---- counts stored

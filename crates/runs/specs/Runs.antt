@@ -1,5 +1,4 @@
 -- The clear runs of every vertex, as the code holds them: for each direction a byte for each vertex.
---     lesser                      the lesser of two numbers
 --     runBeyond                   how many clear vertices lie beyond one in a direction, at most 255: no M is more, and a track has no more
 --     Counted, SomeView           every vertex of the grid has its count in a direction; both directions for some view
 -- and while the counts are made:
@@ -13,7 +12,7 @@
 --     Renewed                     the counts for what is seen, from those for some view
 --     BlockRenewed, RowsRenewed   the same of whole tracks, and of rows along which tracks run
 --     layerStart                  the first vertex of a layer
-use Prim.Native.Nat.{ℕ, _+_, _-_, _*_, _<_, _≤_}
+use Prim.Native.Nat.{ℕ, _+_, _-_, _*_, _<_, _≤_, min}
 use mathlib.Core.Path.{_≡_}
 use mathlib.Core.List.{List}
 use mathlib.Core.Bool.{cond, not}
@@ -25,9 +24,6 @@ use Rattle.rules.specs.Views.{View}
 use Rattle.rules.specs.Segments.{Direction, low, high}
 use Rattle.rules.specs.Overheads.{toward, clearRun}
 use Rattle.rules.specs.Seen.{clearByte, viewBy}
-
-abbrev pub lesser : ℕ → ℕ → ℕ
-lesser k n = k - (k - n)
 
 unfoldable pub runBeyond : Grid → View → Direction → (v : ℕ) → ℕ
 runBeyond g view d v = length (clearRun g view d 255 v)
@@ -49,7 +45,7 @@ CountedIn g view d counts from to = (v : ℕ) → from ≤ v → v < to → getD
 
 -- one more than the neighbour's, if that is clear
 unfoldable pub oneMore : (count byte : ℕ) → ℕ
-oneMore count byte = cond (clearByte byte) (lesser 255 (count + 1)) 0
+oneMore count byte = cond (clearByte byte) (min 255 (count + 1)) 0
 
 -- the number that stands so far off, low or high
 unfoldable pub beside : Direction → (v back : ℕ) → ℕ
