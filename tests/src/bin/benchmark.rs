@@ -2,7 +2,8 @@
 //! of several runs in this process, and how many times as long the library takes.
 //!
 //! Both answer the whole call, from the job's bytes to the plan's. Runs end when
-//! there were enough or they have taken long; one is always made.
+//! there were enough and they were not over at once, or when they have taken long;
+//! one is always made.
 //!
 //! How many places the library settles is told with its nanoseconds for each, all
 //! that the call does included.
@@ -16,7 +17,8 @@ use maizespell_tests::router::settled;
 use maizespell_tests::routing::{routing, Routing};
 use maizespell_tests::rules::board::Board;
 
-const MOST_RUNS: u32 = 50;
+const ENOUGH_RUNS: u32 = 50;
+const SHORT: Duration = Duration::from_secs(3);
 const LONG: Duration = Duration::from_secs(40);
 
 /// More than any plan of these jobs has.
@@ -59,10 +61,7 @@ impl Lent {
     fn time(&mut self, routings: [Routing; 2]) -> [Timed; 2] {
         let begin = Instant::now();
         let mut timed = routings.map(|routing| Timed::first(self, routing));
-        for _ in 1..MOST_RUNS {
-            if begin.elapsed() > LONG {
-                break;
-            }
+        while goes_on(timed[0].runs, begin.elapsed()) {
             for (timed, routing) in timed.iter_mut().zip(routings) {
                 timed.best = timed.best.min(self.run(routing).0);
                 timed.runs += 1;
@@ -100,6 +99,10 @@ fn main() {
             "{name}: {library_ms:.2} ms, {second_ms:.2} ms, {ratio:.2}; {settled}, {each:.0} ns (runs {runs:?})"
         );
     }
+}
+
+fn goes_on(runs: u32, taken: Duration) -> bool {
+    taken < LONG && (runs < ENOUGH_RUNS || taken < SHORT)
 }
 
 fn milliseconds(time: Duration) -> f64 {
