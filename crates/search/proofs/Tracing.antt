@@ -6,7 +6,7 @@
 --     OnJoin, start-on                          a place of a cheapest join, as a search found it; the lowest start with a mark is one
 --     on-lowest, on-next                        there the move that its mark tells is the one that is followed, and it leads to a goal or on to such a place
 --     Counting, counting-begun, -room, -on, -done      the moves so far, then the rest, are the route
-use Prim.Native.Nat.{ℕ, suc, _+_, _-_, _^_, _≤_, _<_}
+use Prim.Native.Nat.{ℕ, suc, _+_, _-_, _^_, _<_}
 use mathlib.Core.Path.{_≡_, sym, ap, _∙_}
 use mathlib.Core.List.{List, _∷_}
 use mathlib.Core.Bool.{true, false, true≢false}

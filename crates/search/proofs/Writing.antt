@@ -6,13 +6,12 @@
 --     writing-legal                           the next move is legal
 --     writing-fits, writing-on                what is known of it, and after it
 --     writing-done                            after the last
-use Prim.Native.Nat.{ℕ, zero, suc, _+_, _-_, _*_, _^_, _≤_, _<_}
-use mathlib.Core.Path.{_≡_, refl, sym, ap, fun-ext, _∙_}
+use Prim.Native.Nat.{ℕ, suc, _+_, _-_, _*_, _^_, _≤_, _<_}
+use mathlib.Core.Path.{_≡_, refl, sym, ap, _∙_}
 use mathlib.Core.List.{List, [], _∷_, _++_}
 use mathlib.Core.Bool.{Bool, true, false}
 use native.Mathlib.Omega.{arith}
-use lib.ListN.{length, getD, set}
-use lib.Dec.{eqb}
+use lib.ListN.{length, set}
 use Rattle.bits.specs.Bits.{fieldBits, putBits}
 use Rattle.bits.proofs.Laws.{length-fieldBits, length-putBits, putBits-append}
 use Rattle.job.specs.Packing.{concatBits}
