@@ -11,7 +11,7 @@ use mathlib.Core.List.{List}
 use native.Mathlib.Omega.{arith}
 use lib.ListN.{length, getD}
 use Rattle.heap.specs.Heaps.{keyOf, slotOf, itemAt, keyAt, above, Seated}
-use Rattle.heap.specs.Sifts.{placed, Moved, Sifted, Rising, Sinking, Lifted, Dropped, Held, Climbs, Below}
+use Rattle.heap.specs.Sifts.{placed, Moved, Sifted, Rising, Sinking, Lifted, Dropped, Held, Climbs, Least, Sinks}
 use Rattle.heap.proofs.Words.{key-word, placed-long, placed-item, placed-agree, placed-word, placed-other}
 use Rattle.heap.proofs.Orders.{rising-on, rising-done, sinking-on, sinking-done}
 use Rattle.heap.proofs.Swaps.{seat-once, Swapped, swapped-keys, swapped-seated, swapped-moved}
@@ -219,18 +219,18 @@ module _ {n size item key : ℕ} {found work : List ℕ} {at : ℕ} (c : Falling
   falling-put = hole-put work at item key (c .seated) (c .sinking .known) (c .known)
 
   -- what the move of the item below asks
-  pub falling-asked : {child : ℕ} → Below n size at key work child → child < size → ShiftAsked n child at work
-  falling-asked {child} t h = hole-shift work at item key (c .seated) (c .sinking .known) (c .known) child h (omega (arith, t .some h .low))
+  pub falling-asked : {child : ℕ} → Least n size at work child → ShiftAsked n child at work
+  falling-asked {child} l = hole-shift work at item key (c .seated) (c .sinking .known) (c .known) child (l .known) (omega (arith, l .low))
 
   -- a place down
-  pub falling-on : {left : List ℕ} {child : ℕ} → Below n size at key work child → child < size → left ≡ placed work n at (itemAt work n child) (keyAt work n child)
-      → Falling n size item key found left child
-  falling-on {left} {child} t h e =
+  pub falling-on : {left : List ℕ} {child : ℕ} {r : Bool} → Sinks n size at key work r → r ≡ true → Least n size at work child
+      → left ≡ placed work n at (itemAt work n child) (keyAt work n child) → Falling n size item key found left child
+  falling-on {left} {child} t told l e =
       rw e
       (record {
         known = c .known;
         seated = swapped-seated s on h swapped;
-        sinking = sinking-on (c .sinking) low h of least (omega (arith, t .less h, own-key work at item key s on (c .known), beside child h away)) (swapped-keys s on h swapped);
+        sinking = sinking-on (c .sinking) low h of least (omega (arith, t .yes-key told child l, own-key work at item key s on (c .known), beside child h away)) (swapped-keys s on h swapped);
         moved = swapped-moved s on h swapped (c .moved);
       })
     where
@@ -240,11 +240,14 @@ module _ {n size item key : ℕ} {found work : List ℕ} {at : ℕ} (c : Falling
       on : at < size
       on = c .sinking .known
 
+      h : child < size
+      h = l .known
+
       low : at < child
-      low = t .some h .low
+      low = l .low
 
       of : above child ≡ at
-      of = t .some h .child-of
+      of = l .child-of
 
       away : child ≡ at → ⊥
       away = omega (arith, low)
@@ -253,20 +256,20 @@ module _ {n size item key : ℕ} {found work : List ℕ} {at : ℕ} (c : Falling
       beside i l x = hole-key work at item key s on (c .known) i l x
 
       least : (i : ℕ) → 0 < i → i < size → above i ≡ at → keyAt (placed work n at item key) n child ≤ keyAt (placed work n at item key) n i
-      least i p l x = omega (arith, t .some h .least i p l x, beside child h away, beside i l (omega arith))
+      least i p y x = omega (arith, l .least i p y x, beside child h away, beside i y (omega arith))
 
       swapped : Swapped n at child (placed work n at item key) (placed (placed work n at (itemAt work n child) (keyAt work n child)) n child item key)
       swapped = hole-swapped work at item key s on (c .known) child h away
 
   -- in its place
-  pub falling-done : {left : List ℕ} {child : ℕ} → Below n size at key work child → size ≤ child → left ≡ placed work n at item key → Sifted n size found left
-  falling-done {left} t h e =
+  pub falling-done : {left : List ℕ} {r : Bool} → Sinks n size at key work r → r ≡ false → left ≡ placed work n at item key → Sifted n size found left
+  falling-done {left} t told e =
       rw e
       (record {
         heaped =
             record {
               seated = s;
-              order = sinking-done (c .sinking) (λ i p l x. omega (arith, t .none h i p l x, own-key work at item key s on (c .known), hole-key work at item key s on (c .known) i l (omega arith)));
+              order = sinking-done (c .sinking) (λ i p l x. omega (arith, t .no-key told i p l x, own-key work at item key s on (c .known), hole-key work at item key s on (c .known) i l (omega arith)));
             };
         moved = c .moved;
       })

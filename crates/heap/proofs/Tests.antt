@@ -2,12 +2,12 @@
 --     one-is, one-small                      a test as a number
 --     placed-from                            an item moved from a place, with its own key
 --     climbs-front, climbs-test              whether the item above has a greater key
---     below-none, below-some, below-not      the place below with the least key, where that is less
---     keyed-asked                            what reading a key of places in a row asks
---     lowest-..                              the one of them with the least key: of one place, of two rows that meet, of two places
+--     sinks-end, sinks-test                  whether an item right below has a lesser key
+--     keyed-asked, keyed-word                what reading a key or a word of places in a row asks
+--     lowest-..                              the one of them with the least key: of one place, of two rows that meet, of two places, of four
 --     held-keyed, lowest-least               the places right below a place are such a row
 use Prim.Native.Nat.{ℕ, _+_, _*_, _≤_, _<_}
-use mathlib.Core.Path.{_≡_, refl, sym, _∙_}
+use mathlib.Core.Path.{_≡_, refl, sym, ap, _∙_}
 use mathlib.Core.Bool.{Bool, true, false, cond}
 use mathlib.Core.List.{List}
 use native.Mathlib.Nat.{le-refl}
@@ -18,7 +18,8 @@ use lib.Dec.{ltb}
 use borrow.Author.Tests.{ltb-true, ltb-false, lt-ltb, le-ltb}
 use mir.Val.{boolByte}
 use Rattle.heap.specs.Heaps.{keyOf, itemAt, keyAt, above}
-use Rattle.heap.specs.Sifts.{placed, Held, Keyed, Lowest, Climbs, Least, Below}
+use Rattle.heap.specs.Sifts.{placed, Held, Keyed, Lowest, Climbs, Least, Sinks}
+use Rattle.heap.proofs.Words.{word-key}
 
 -- a test as a number
 pub one-is : (b : Bool) → boolByte b ≡ cond b 1 0
@@ -55,22 +56,22 @@ module _ (work : List ℕ) (n : ℕ) where
       }
 
   module _ {size at : ℕ} (key : ℕ) where
-    -- there is no place below
-    pub below-none : size ≤ 4 * at + 1 → Below n size at key work size
-    below-none end = record { some = λ h. absurd (omega arith); less = λ h. absurd (omega arith); none = λ h i p l e. absurd (omega arith) }
-
-    -- its key is less
-    pub below-some : {child own : ℕ} → Least n size at work child → own ≡ keyAt work n child → own < key → Below n size at key work child
-    below-some {child} l e h =
-        record { some = λ x. l; less = λ x. rw (sym e) h; none = λ x i p y f. absurd (omega (arith, l .known)) }
-
-    -- or no less
-    pub below-not : {child own : ℕ} → Least n size at work child → own ≡ keyAt work n child → key ≤ own → Below n size at key work size
-    below-not {child} l e h =
+    -- nothing is below
+    pub sinks-end : size ≤ 4 * at + 1 → Sinks n size at key work false
+    sinks-end end =
         record {
-          some = λ x. absurd (omega arith);
-          less = λ x. absurd (omega arith);
-          none = λ x i p y f. omega (arith, l .least i p y f);
+          yes-low = λ x. let z : _≡_ {A = ℕ} 0 1 = cc in omega arith;
+          yes-key = λ x child l. let z : _≡_ {A = ℕ} 0 1 = cc in omega arith;
+          no-key = λ x i p h e. absurd (omega arith);
+        }
+
+    -- else the test of the child with the least key tells
+    pub sinks-test : {child own : ℕ} → 4 * at + 1 < size → Least n size at work child → own ≡ keyAt work n child → Sinks n size at key work (ltb own key)
+    sinks-test {child} {own} some l e =
+        record {
+          yes-low = λ x. some;
+          yes-key = λ x other m. omega (arith, ltb-true own key x, m .least child (omega (arith, l .low)) (l .known) (l .child-of));
+          no-key = λ x i p h f. omega (arith, ltb-false own key x, l .least i p h f);
         }
 
 -- ---- places in a row
@@ -80,6 +81,10 @@ module _ {n : ℕ} {work : List ℕ} where
   pub keyed-asked : {first end : ℕ} → Keyed n first end work → {i : ℕ} → first ≤ i → i < end
       → (n ≤ 524288) × (i < n) × (n + i < length work) × (keyOf (getD work (n + i) 0) ≡ keyAt work n i)
   keyed-asked k {i} l h = (k .few, omega (arith, k .fits), omega (arith, k .fits, k .room), k .agree i l h)
+
+  -- and a word
+  pub keyed-word : {first end : ℕ} → Keyed n first end work → {i : ℕ} → first ≤ i → i < end → (n ≤ 524288) × (i < n) × (n + i < length work)
+  keyed-word k l h = let asked = keyed-asked k l h in (asked .0, asked .1, asked .2)
 
   -- of one place
   pub lowest-one : (first : ℕ) {end : ℕ} → end ≡ first + 1 → Lowest n first end work first
@@ -109,24 +114,68 @@ module _ {n : ℕ} {work : List ℕ} where
         by p l h (yes x) = a .least p l x
         by p l h (no x) = omega (arith, b .least p (omega arith) h)
 
-  -- of two places, with its key
-  pub lowest-pair : (first second end : ℕ) {a b step key : ℕ} → second ≡ first + 1 → end ≡ first + 2 → a ≡ keyAt work n first → b ≡ keyAt work n second
-      → step ≡ cond (ltb b a) 1 0 → key ≡ cond (ltb b a) b a → (Lowest n first end work (first + step)) × (key ≡ keyAt work n (first + step))
-  lowest-pair first second end {a} {b} {step} {key} next stop x y is low = by (decLt b a)
-    where
-      one : Lowest n first second work first
-      one = lowest-one first next
+  module _ {first end : ℕ} (keyed : Keyed n first end work) where
+    -- of two of these places, with its word: the lesser word has no greater key
+    lowest-pair : (one other : ℕ) {a b step word : ℕ} → first ≤ one → other ≡ one + 1 → other < end → a ≡ getD work (n + one) 0 → b ≡ getD work (n + other) 0
+        → step ≡ cond (ltb b a) 1 0 → word ≡ cond (ltb b a) b a → (Lowest n one (one + 2) work (one + step)) × (word ≡ getD work (n + (one + step)) 0)
+    lowest-pair one other {a} {b} {step} {word} from next until x y is low = by (decLt b a)
+      where
+        left : Lowest n one other work one
+        left = lowest-one one next
 
-      other : Lowest n second end work second
-      other = lowest-one second (omega arith)
+        right : Lowest n other (one + 2) work other
+        right = lowest-one other (omega arith)
 
-      by : Dec (b < a) → (Lowest n first end work (first + step)) × (key ≡ keyAt work n (first + step))
-      by (yes h) =
-          let place : first + step ≡ second = omega (arith, rw (lt-ltb b a h) at is) in
-          rw place (lowest-right one other (omega arith), (rw (lt-ltb b a h) at low) ∙ y)
-      by (no h) =
-          let place : first + step ≡ first = omega (arith, rw (le-ltb b a (omega arith)) at is) in
-          rw place (lowest-left one other (omega arith), (rw (le-ltb b a (omega arith)) at low) ∙ x)
+        own : keyOf a ≡ keyAt work n one
+        own = ap keyOf x ∙ keyed .agree one from (omega arith)
+
+        its : keyOf b ≡ keyAt work n other
+        its = ap keyOf y ∙ keyed .agree other (omega arith) until
+
+        by : Dec (b < a) → (Lowest n one (one + 2) work (one + step)) × (word ≡ getD work (n + (one + step)) 0)
+        by (yes h) =
+            let place : one + step ≡ other = omega (arith, rw (lt-ltb b a h) at is) in
+            rw place (lowest-right left right (omega (arith, own, its, word-key b a (omega arith))), (rw (lt-ltb b a h) at low) ∙ y)
+        by (no h) =
+            let place : one + step ≡ one = omega (arith, rw (le-ltb b a (omega arith)) at is) in
+            rw place (lowest-left left right (omega (arith, own, its, word-key a b (omega arith))), (rw (le-ltb b a (omega arith)) at low) ∙ x)
+
+    -- of four places, the lesser of the two that each pair leaves
+    pub lowest-four : {a b c d i j ab cd : ℕ} → end ≡ first + 4 → a ≡ getD work (n + first) 0 → b ≡ getD work (n + (first + 1)) 0
+        → c ≡ getD work (n + (first + 2)) 0 → d ≡ getD work (n + (first + 3)) 0 → i ≡ cond (ltb b a) 1 0 → j ≡ cond (ltb d c) 1 0
+        → ab ≡ cond (ltb b a) b a → cd ≡ cond (ltb d c) d c
+        → (cd < ab → Lowest n first end work (first + 2 + j)) × (ab ≤ cd → Lowest n first end work (first + i))
+    lowest-four {a} {b} {c} {d} {i} {j} {ab} {cd} four wa wb wc wd is js low high =
+        (λ h. lowest-right front back (key (omega (arith, h)) back-word front-word back-in front-in), λ h. lowest-left front back (key h front-word back-word front-in back-in))
+      where
+        pair-front : (Lowest n first (first + 2) work (first + i)) × (ab ≡ getD work (n + (first + i)) 0)
+        pair-front = lowest-pair first (first + 1) (le-refl first) refl (omega arith) wa wb is low
+
+        pair-back : (Lowest n (first + 2) (first + 2 + 2) work (first + 2 + j)) × (cd ≡ getD work (n + (first + 2 + j)) 0)
+        pair-back = lowest-pair (first + 2) (first + 3) (omega arith) (omega arith) (omega arith) wc wd js high
+
+        front : Lowest n first (first + 2) work (first + i)
+        front = pair-front .0
+
+        back : Lowest n (first + 2) end work (first + 2 + j)
+        back = let same : first + 2 + 2 ≡ end = omega arith in rw same at pair-back .0
+
+        front-word : ab ≡ getD work (n + (first + i)) 0
+        front-word = pair-front .1
+
+        back-word : cd ≡ getD work (n + (first + 2 + j)) 0
+        back-word = pair-back .1
+
+        front-in : (first ≤ first + i) × (first + i < end)
+        front-in = (front .from, omega (arith, front .until))
+
+        back-in : (first ≤ first + 2 + j) × (first + 2 + j < end)
+        back-in = (omega (arith, back .from), back .until)
+
+        key : {v w x y : ℕ} → v ≤ w → v ≡ getD work (n + x) 0 → w ≡ getD work (n + y) 0 → (first ≤ x) × (x < end) → (first ≤ y) × (y < end)
+            → keyAt work n x ≤ keyAt work n y
+        key {v} {w} {x} {y} h e f in-x in-y =
+            omega (arith, word-key v w h, ap keyOf e ∙ keyed .agree x (in-x .0) (in-x .1), ap keyOf f ∙ keyed .agree y (in-y .0) (in-y .1))
 
   -- the places right below a place, as far as they are in the heap
   module _ {size at end : ℕ} (in-heap : end ≤ size) where

@@ -1,5 +1,6 @@
 -- Words of the heap, and stores to them.
 --     key-word, slot-word          the key and the slot of an entry made of the two
+--     word-key                     of two words the lesser has no greater key
 --     open-or-not                  an entry's item is in the heap or not
 --     placed-long, placed-item, placed-agree, placed-word, placed-other     the slice with an item put at a place, word by word
 use Prim.Native.Nat.{ℕ, _+_, _≤_, _<_}
@@ -22,6 +23,11 @@ key-word key slot h = digits-div key h
 pub slot-word : (key slot : ℕ) → slot < 1048576 → slotOf (wordOf key slot) ≡ slot
 unfolding slotOf wordOf
 slot-word key slot h = digits-mod key h
+
+-- of two words the lesser has no greater key
+pub word-key : (a b : ℕ) → a ≤ b → keyOf a ≤ keyOf b
+unfolding keyOf
+word-key a b h = omega arith
 
 -- an entry's item is in the heap or not
 pub open-or-not : (n word : ℕ) → Dec (Open n word)

@@ -5,8 +5,8 @@
 --     Lifted, Dropped              what sift_up and sift_down ask
 --     Sifted                       what both do
 --     Keyed, Lowest                places in a row, and the one of them with the least key
---     Climbs, Least, Below         what the code's tests tell
-use Prim.Native.Nat.{ℕ, _+_, _≤_, _<_}
+--     Climbs, Least, Sinks         what the code's tests tell
+use Prim.Native.Nat.{ℕ, _+_, _*_, _≤_, _<_}
 use mathlib.Core.Path.{_≡_}
 use mathlib.Core.Bool.{Bool, true, false}
 use mathlib.Core.List.{List}
@@ -96,8 +96,8 @@ pub record Least (n size at : ℕ) (work : List ℕ) (child : ℕ) : Type 0 wher
   pub child-of : above child ≡ at
   pub least : (i : ℕ) → 0 < i → i < size → above i ≡ at → keyAt work n child ≤ keyAt work n i
 
--- that child where its key is less, else past the end
-pub record Below (n size at key : ℕ) (work : List ℕ) (child : ℕ) : Type 0 where
-  pub some : child < size → Least n size at work child
-  pub less : child < size → keyAt work n child < key
-  pub none : size ≤ child → (i : ℕ) → 0 < i → i < size → above i ≡ at → key ≤ keyAt work n i
+-- whether one has a lesser key
+pub record Sinks (n size at key : ℕ) (work : List ℕ) (down : Bool) : Type 0 where
+  pub yes-low : down ≡ true → 4 * at + 1 < size
+  pub yes-key : down ≡ true → (child : ℕ) → Least n size at work child → keyAt work n child < key
+  pub no-key : down ≡ false → (i : ℕ) → 0 < i → i < size → above i ≡ at → key ≤ keyAt work n i

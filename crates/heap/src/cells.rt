@@ -19,6 +19,14 @@ pub fn key_of(work: &[u64], item: usize) -> u64
     work[item] / SLOTS
 }
 
+// The word of a place.
+pub fn word_at(work: &[u64], n: usize, at: usize) -> u64
+    requires { ⌜ (n ≤ mostItems) × (at < n) × (n + at < length (now work)) ⌝ }
+    ensures { λ r. ⌜ r ≡ getD (now (work .entry)) (n + at) 0 ⌝ }
+{
+    work[n + at]
+}
+
 // The item at a place.
 pub fn item_at(work: &[u64], n: usize, at: usize) -> usize
     requires { ⌜ (n ≤ mostItems) × (at < n) × (n + at < length (now work)) ⌝ }

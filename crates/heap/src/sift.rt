@@ -4,10 +4,11 @@ ghost use mathlib.Core.Path.{_≡_};
 ghost use mathlib.Core.Bool.{cond};
 ghost use Prim.Native.Nat.{_+_, _*_, _<_};
 ghost use lib.Dec.{ltb};
-ghost use Rattle.heap.specs.Sifts.{placed, Lifted, Dropped, Held, Sifted, Keyed, Lowest, Climbs, Least, Below};
+ghost use Rattle.heap.specs.Sifts.{placed, Lifted, Dropped, Held, Sifted, Keyed, Lowest, Climbs, Least, Sinks};
 use crate::cells::key_at;
 use crate::cells::put;
 use crate::cells::shift;
+use crate::cells::word_at;
 
 // Whether the item above a place has a greater key.
 fn climbs(work: &[u64], n: usize, size: usize, at: usize, key: u64) -> bool
@@ -41,22 +42,23 @@ fn one_if(test: bool) -> usize
     test as usize
 }
 
-// The lesser of two keys.
+// The lesser of two words.
 fn lesser(a: u64, b: u64) -> u64
     ensures { λ r. ⌜ r ≡ cond (ltb b a) b a ⌝ }
 {
     if b < a { b } else { a }
 }
 
-// Of four places in a row the one with the least key: the lesser of each pair, then of the two. Each key is read once, with no branch.
+// Of four places in a row the one with the least key: the lesser of each pair, then of the two. Each word is read once, with no branch. Words are
+// compared whole: the lesser has no greater key.
 fn least_of_four(work: &[u64], n: usize, first: usize) -> usize
     requires { ⌜ Keyed n first (first + 4) (now work) ⌝ }
     ensures { λ r. ⌜ Lowest n first (first + 4) (now (work .entry)) r ⌝ }
 {
-    let a = key_at(work, n, first);
-    let b = key_at(work, n, first + 1);
-    let c = key_at(work, n, first + 2);
-    let d = key_at(work, n, first + 3);
+    let a = word_at(work, n, first);
+    let b = word_at(work, n, first + 1);
+    let c = word_at(work, n, first + 2);
+    let d = word_at(work, n, first + 3);
     let i = first + one_if(b < a);
     let j = first + 2 + one_if(d < c);
     if lesser(c, d) < lesser(a, b) { j } else { i }
@@ -88,20 +90,15 @@ fn lesser_child(work: &[u64], n: usize, size: usize, at: usize) -> usize
     least_of_four(work, n, first)
 }
 
-// Below a place the one with the least key where that is less than a key, else the heap's size.
-fn below(work: &[u64], n: usize, size: usize, at: usize, key: u64) -> usize
+// Whether an item right below a place has a lesser key.
+fn sinks(work: &[u64], n: usize, size: usize, at: usize, key: u64) -> bool
     requires { ⌜ Held n size at (now work) ⌝ }
-    ensures { λ r. ⌜ Below n size at key (now (work .entry)) r ⌝ }
+    ensures { λ r. ⌜ Sinks n size at key (now (work .entry)) r ⌝ }
 {
     if size <= 4 * at + 1 {
-        return size;
+        return false;
     }
-    let child = lesser_child(work, n, size, at);
-    if key_at(work, n, child) < key {
-        child
-    } else {
-        size
-    }
+    key_at(work, n, lesser_child(work, n, size, at)) < key
 }
 
 // Puts an item at a place of a heap of `size`, or lower.
@@ -110,11 +107,10 @@ pub fn sift_down(work: &mut [u64], n: usize, size: usize, from: usize, item: usi
     ensures { λ _. ⌜ Sifted n size (placed (now (work .entry)) n from item key) (now (work .exit)) ⌝ }
 {
     let mut at = from;
-    let mut child = below(work, n, size, at, key);
-    while child < size {
-        shift(work, n, child, at);
-        at = child;
-        child = below(work, n, size, at, key);
+    while sinks(work, n, size, at, key) {
+        let down = lesser_child(work, n, size, at);
+        shift(work, n, down, at);
+        at = down;
     }
     put(work, n, at, item, key);
 }
