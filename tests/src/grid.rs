@@ -20,6 +20,19 @@ pub fn vertex(layer: u32, row: u32, column: u32) -> Vertex {
     Vertex { layer, row, column }
 }
 
+/// The vertices of a track, by number, from low to high.
+pub struct Track {
+    first: usize,
+    pub length: usize,
+    stride: usize,
+}
+
+impl Track {
+    pub fn vertex(&self, place: usize) -> usize {
+        self.first + place * self.stride
+    }
+}
+
 #[derive(Clone, Copy, Debug, PartialEq, Eq)]
 pub struct Grid {
     pub layers: u32,
@@ -65,6 +78,24 @@ impl Grid {
         }
     }
 
+    /// All tracks.
+    pub fn tracks(&self) -> impl Iterator<Item = Track> + '_ {
+        let rows = self.rows as usize;
+        let columns = self.columns as usize;
+        (0..self.layers).flat_map(move |layer| {
+            let first = self.number(vertex(layer, 0, 0));
+            let (count, apart, length, stride) = match self.step_changes_column(layer) {
+                true => (rows, columns, columns, 1),
+                false => (columns, 1, rows, columns),
+            };
+            (0..count).map(move |index| Track {
+                first: first + index * apart,
+                length,
+                stride,
+            })
+        })
+    }
+
     /// Vertices from this one, itself counted, to the high end of its track.
     pub fn track_left(&self, v: Vertex) -> u32 {
         if self.step_changes_column(v.layer) {
@@ -104,6 +135,24 @@ mod tests {
         assert_eq!(grid(0).along(vertex(1, 1, 1), 2), vertex(1, 3, 1));
         assert_eq!(grid(1).along(vertex(0, 1, 1), 2), vertex(0, 3, 1));
         assert_eq!(grid(1).along(vertex(1, 1, 1), 2), vertex(1, 1, 3));
+    }
+
+    #[test]
+    fn tracks_hold_every_vertex_once() {
+        for direction in 0..=1 {
+            let grid = grid(direction);
+            let mut seen = vec![0; grid.vertices() as usize];
+            for track in grid.tracks() {
+                let start = grid.numbered(track.vertex(0) as u32);
+                assert_eq!(track.length, grid.track_left(start) as usize);
+                for place in 0..track.length {
+                    seen[track.vertex(place)] += 1;
+                    let along = grid.along(start, place as u32);
+                    assert_eq!(track.vertex(place), grid.number(along));
+                }
+            }
+            assert!(seen.iter().all(|times| *times == 1));
+        }
     }
 
     #[test]

@@ -1,5 +1,6 @@
 //! A job laid out on its grid: what stands there before any join.
 
+use crate::grid::vertex;
 use crate::job::{GuideBox, Job, Layer};
 use crate::rules::moves::Neighbours;
 use crate::rules::segment::Segment;
@@ -65,19 +66,21 @@ impl<'a> Board<'a> {
         &self.job.layers[usize::from(self.layer_of[vertex])]
     }
 
-    /// "No boxes: the whole grid is inside the guide."
-    pub fn in_guide(&self, net: u16, vertex: usize) -> bool {
+    /// Which vertices lie outside a net's guide. "No boxes: the whole grid is
+    /// inside the guide."
+    pub fn outside_guide(&self, net: u16) -> Vec<bool> {
+        let grid = self.job.grid();
         let boxes = &self.job.nets[net as usize - 1].boxes;
-        if boxes.is_empty() {
-            return true;
+        let mut outside = vec![!boxes.is_empty(); self.vertices()];
+        for GuideBox { low, high } in boxes {
+            for layer in low.layer..=high.layer {
+                for row in low.row..=high.row {
+                    let first = grid.number(vertex(layer, row, low.column));
+                    let last = grid.number(vertex(layer, row, high.column));
+                    outside[first..=last].fill(false);
+                }
+            }
         }
-        let v = self.job.grid().numbered(vertex as u32);
-        let holds = |guide: &GuideBox| {
-            let GuideBox { low, high } = guide;
-            (low.layer..=high.layer).contains(&v.layer)
-                && (low.row..=high.row).contains(&v.row)
-                && (low.column..=high.column).contains(&v.column)
-        };
-        boxes.iter().any(holds)
+        outside
     }
 }

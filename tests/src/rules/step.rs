@@ -45,8 +45,10 @@ impl Step {
     }
 }
 
+/// Making a move is inlined: the search makes four for each place.
 impl View<'_> {
     /// The move made, or what forbids it.
+    #[inline(always)]
     pub fn step(&self, from: Place, by: Move) -> Result<Step, Cause> {
         let entered = self.board.neighbours.entered(from.vertex, by);
         let to = entered.ok_or(Cause::OffGrid)?;
@@ -60,6 +62,7 @@ impl View<'_> {
 
     /// "A step adds 1 to the length, and no step goes back against the
     /// direction."
+    #[inline(always)]
     fn wire(&self, segment: Segment, side: Side, to: usize, penalty: u32) -> Result<Step, Cause> {
         let layer = self.board.layer(to);
         let stepped = segment.stepped(side, layer.min_length);
@@ -77,6 +80,7 @@ impl View<'_> {
 
     /// "A via move out of a segment of length n < M also costs overhead. A via
     /// makes it fresh again."
+    #[inline(always)]
     fn via(&self, from: Place, to: usize, penalty: u32) -> Result<Step, Cause> {
         let lower = self.board.layer(from.vertex.min(to));
         let mut step = Step {

@@ -3,7 +3,7 @@
 //! Only other nets' metal counts as taken, so nothing of this changes while the
 //! net is being joined.
 
-use crate::job::CLOSED;
+use crate::job::{Job, CLOSED};
 use crate::rules::board::Board;
 use crate::rules::metal::Metal;
 use crate::rules::segment::Side;
@@ -55,16 +55,18 @@ pub struct View<'a> {
 impl<'a> View<'a> {
     /// The view of a net, counted from 1.
     pub fn of(board: &'a Board<'a>, net: u16, metal: &Metal) -> Self {
-        let vertices = 0..board.vertices();
-        let clear: Vec<bool> = vertices
-            .clone()
-            .map(|vertex| clear(board, net, metal, vertex))
-            .collect();
+        let extras = Extras::of(board.job);
+        let outside = board.outside_guide(net);
+        let penalty = |vertex| {
+            may_enter(board, net, vertex)?;
+            extras.of_entering(outside[vertex], metal.taken(net, vertex))
+        };
+        let clear = |vertex| may_enter(board, net, vertex).is_ok() && !metal.taken(net, vertex);
+        let penalty: Vec<_> = (0..board.vertices()).map(penalty).collect();
+        let clear: Vec<_> = (0..board.vertices()).map(clear).collect();
         View {
             board,
-            penalty: vertices
-                .map(|vertex| penalty(board, net, metal, vertex))
-                .collect(),
+            penalty,
             clear_low: clear_beyond(board, &clear, Side::Low),
             clear_high: clear_beyond(board, &clear, Side::High),
         }
@@ -86,21 +88,24 @@ impl<'a> View<'a> {
 
 /// "Plus the guide penalty if v lies in none of the net's boxes, plus the short
 /// penalty if v is taken"; the closed price forbids what it prices.
-fn penalty(board: &Board, net: u16, metal: &Metal, vertex: usize) -> Result<u32, Cause> {
-    if board.obstacle(vertex) {
-        return Err(Cause::Obstacle);
+struct Extras {
+    /// For vertices inside the guide and outside, each clear and taken.
+    sums: [Result<u32, Cause>; 4],
+}
+
+impl Extras {
+    fn of(job: &Job) -> Self {
+        let guide = open(job.guide_penalty, Cause::GuideClosed);
+        let short = open(job.short_penalty, Cause::ShortClosed);
+        let both = guide.and_then(|guide| short.map(|short| guide + short));
+        Extras {
+            sums: [Ok(0), short, guide, both],
+        }
     }
-    if other_pin(board, net, vertex) {
-        return Err(Cause::OtherPin);
+
+    fn of_entering(&self, outside: bool, taken: bool) -> Result<u32, Cause> {
+        self.sums[usize::from(outside) * 2 + usize::from(taken)]
     }
-    let mut price = 0;
-    if !board.in_guide(net, vertex) {
-        price += open(board.job.guide_penalty, Cause::GuideClosed)?;
-    }
-    if metal.taken(net, vertex) {
-        price += open(board.job.short_penalty, Cause::ShortClosed)?;
-    }
-    Ok(price)
 }
 
 fn open(penalty: u32, cause: Cause) -> Result<u32, Cause> {
@@ -110,29 +115,32 @@ fn open(penalty: u32, cause: Cause) -> Result<u32, Cause> {
     Ok(penalty)
 }
 
-fn other_pin(board: &Board, net: u16, vertex: usize) -> bool {
+/// "It may not enter an obstacle or another net's pin."
+fn may_enter(board: &Board, net: u16, vertex: usize) -> Result<(), Cause> {
+    if board.obstacle(vertex) {
+        return Err(Cause::Obstacle);
+    }
     let owner = board.pin_of(vertex);
-    owner != 0 && owner != net
+    if owner != 0 && owner != net {
+        return Err(Cause::OtherPin);
+    }
+    Ok(())
 }
 
-/// "No obstacle, no other net's pin, not taken."
-fn clear(board: &Board, net: u16, metal: &Metal, vertex: usize) -> bool {
-    !board.obstacle(vertex) && !other_pin(board, net, vertex) && !metal.taken(net, vertex)
-}
-
-/// The count of clear vertices beyond each vertex: one more than beyond the next
-/// one, if that is clear. A track has 256 vertices at most, so the count fits.
+/// The count of clear vertices beyond each vertex: none beyond the end of its
+/// track, else one more than beyond the next one, if that is clear. A track has
+/// 256 vertices at most, so the count fits.
 fn clear_beyond(board: &Board, clear: &[bool], side: Side) -> Vec<u8> {
     let mut counts = vec![0; clear.len()];
-    for index in 0..clear.len() {
-        let vertex = match side {
-            Side::Low => index,
-            Side::High => clear.len() - 1 - index,
-        };
-        if let Some(next) = board.neighbours.entered(vertex, side.step()) {
-            if clear[next] {
-                counts[vertex] = counts[next] + 1;
-            }
+    for track in board.job.grid().tracks() {
+        let mut count = 0;
+        for place in 0..track.length {
+            let vertex = match side {
+                Side::Low => track.vertex(place),
+                Side::High => track.vertex(track.length - 1 - place),
+            };
+            counts[vertex] = count;
+            count = if clear[vertex] { count + 1 } else { 0 };
         }
     }
     counts
