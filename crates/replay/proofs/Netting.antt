@@ -29,7 +29,7 @@ use Rattle.tree.specs.Spots.{begunSpots}
 use Rattle.views.specs.Sight.{NetAtHand}
 use Rattle.walker.specs.Structs.{totalsOf, Bounded, NetsHeld}
 use Rattle.walker.specs.Standing.{AtNet}
-use Rattle.walker.proofs.Standing.{more-length}
+use Rattle.walker.proofs.Metals.{Later, later-none, later-more, later-on}
 use Rattle.walker.proofs.Nets.{Nets, empty, nets-begun, rules, grid, nets-few, hand, own, own-below, own-pins, own-count, first, at-net, one-on, nets-on}
 use Rattle.replay.specs.Following.{Came, arraysOf, Ended, netFrom}
 use Rattle.replay.specs.Structs.{IsNet, NetFits, IsNets}
@@ -50,13 +50,13 @@ net-answer g (NetRead.Ended totals next) y (bothGood {a = all} e f m) is =
     let (totals-same, next-same) = rw f at is in
     rw f (all, e, totals-same ∙ ap (λ (z : Ended). z .totals) (m .0), next-same ∙ ap (λ (z : Ended). z .next) (m .0), m .1)
 
--- the records of a net leave a list of metal for each net
-net-metals : (j : Job) (k : ℕ) {s : Standing} {es : List Entry} {metal : List (List ℕ)} → NetEntries j k s es metal → length metal ≡ length (s .metal)
+-- the records of a net leave the metal of the nets to come
+net-metals : (j : Job) (k : ℕ) {s : Standing} {es : List Entry} {metal : List (List ℕ)} → NetEntries j k s es metal → Later k (s .metal) metal
 unfolding joinedBy
-net-metals j k (allJoined all left) = ap (λ (m : List (List ℕ)). length m) left
-net-metals j k (gaveUp some is left) = ap (λ (m : List (List ℕ)). length m) left
-net-metals j k (joins {s = s} l is rest) =
-    net-metals j k rest ∙ ap (λ (z : Standing). length (z .metal)) (l .stands) ∙ more-length k _ (s .metal)
+net-metals j k (allJoined all left) = later-none left
+net-metals j k (gaveUp some is left) = later-none left
+net-metals j k {metal = metal} (joins {s = s} l is rest) =
+    later-on (later-more k _ (s .metal)) (subst (λ (z : Standing). Later k (z .metal) metal) (l .stands) (net-metals j k rest))
 
 -- entries before those of the nets that follow
 unfoldable pub withEntries : List Entry → Progress → Progress

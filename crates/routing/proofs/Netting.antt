@@ -1,5 +1,5 @@
 -- Turns of routing net by net.
---     net-metals                    the records of a net leave a list of metal for each net
+--     net-metals                    the records of a net leave the metal of the nets to come
 --     Netting, netting-begun        what has been routed, and that the rest gives the whole
 --     netting-on                    a net more
 --     netting-done                  no net is left
@@ -33,27 +33,27 @@ use Rattle.tree.specs.Spots.{begunSpots}
 use Rattle.views.specs.Sight.{NetAtHand}
 use Rattle.walker.specs.Standing.{AtNet}
 use Rattle.walker.specs.Structs.{totalsOf, Bounded, NetsHeld}
-use Rattle.walker.proofs.Standing.{more-length}
+use Rattle.walker.proofs.Metals.{Later, later-none, later-more, later-on}
 use Rattle.walker.proofs.Nets.{Nets, empty, nets-begun, rules, nets-few, hand, own, own-below, own-pins, own-count, at-net, one-on, nets-on}
 use Rattle.routing.specs.Structs.{NetHere, IsRouted}
 use Rattle.routing.specs.declared.routed.Routed.{Routed as RoutedStruct}
 use Rattle.routing.proofs.Records.{withEntries}
 
--- the records of a net leave a list of metal for each net
-net-metals : (j : Job) (k n : ℕ) (s : Standing) (totals : Totals) → length (routeNet j k n s totals .metal) ≡ length (s .metal)
+-- the records of a net leave the metal of the nets to come
+net-metals : (j : Job) (k n : ℕ) (s : Standing) (totals : Totals) → Later k (s .metal) (routeNet j k n s totals .metal)
 unfolding routeNet byRecord withEntry afterJoin joinedBy
-net-metals j k zero s totals = refl
+net-metals j k zero s totals = later-none refl
 net-metals j k (suc n) s totals = by (s .unjoined) (net-metals j k n)
   where
     Rest : Type 0
-    Rest = (s : Standing) (totals : Totals) → length (routeNet j k n s totals .metal) ≡ length (s .metal)
+    Rest = (s : Standing) (totals : Totals) → Later k (s .metal) (routeNet j k n s totals .metal)
 
-    byWalk : Rest → (x : Walked) → length (afterJoin k s totals (routeNet j k n) x .metal) ≡ length (s .metal)
-    byWalk rest stuck = refl
-    byWalk rest (walked last sum) = rest (joinedBy k s (last .vertex) sum) (withJoin totals sum) ∙ more-length k _ (s .metal)
+    byWalk : Rest → (x : Walked) → Later k (s .metal) (afterJoin k s totals (routeNet j k n) x .metal)
+    byWalk rest stuck = later-none refl
+    byWalk rest (walked last sum) = later-on (later-more k _ (s .metal)) (rest (joinedBy k s (last .vertex) sum) (withJoin totals sum))
 
-    byRecords : Rest → (r : Record) → length (byRecord j k s totals (routeNet j k n) r .metal) ≡ length (s .metal)
-    byRecords rest none = refl
+    byRecords : Rest → (r : Record) → Later k (s .metal) (byRecord j k s totals (routeNet j k n) r .metal)
+    byRecords rest none = later-none refl
     byRecords rest (join start moves cost) = byWalk rest (walk (techOf j) (viewOf j k (s .metal)) (startAt start) moves)
 
     routed : List ℕ → Routed
@@ -63,8 +63,8 @@ net-metals j k (suc n) s totals = by (s .unjoined) (net-metals j k n)
           | p ∷ ps ↦ byRecord j k s totals (routeNet j k n) (joinOf (techOf j) (viewOf j k (s .metal)) (s .tree) (p ∷ ps))
         ]
 
-    by : (u : List ℕ) → Rest → length (routed u .metal) ≡ length (s .metal)
-    by [] rest = refl
+    by : (u : List ℕ) → Rest → Later k (s .metal) (routed u .metal)
+    by [] rest = later-none refl
     by (p ∷ ps) rest = byRecords rest (joinOf (techOf j) (viewOf j k (s .metal)) (s .tree) (p ∷ ps))
 
 -- entries of one net, and of those before it

@@ -1,8 +1,9 @@
 -- Another net's metal, told by the map's code.
 --     code-none, code-many, code-more, code-some     the code where no, several, more, some nets' metal covers a vertex
 --     taken-code                                     a vertex is taken where its code is neither 0 nor the net's own
+--     holdsAt, code-own                              whether a net's list holds a vertex: it does where the code is the net's own
 use Prim.Native.Nat.{ℕ, zero, suc, _+_, _≤_, _<_}
-use mathlib.Core.Path.{_≡_, refl, sym}
+use mathlib.Core.Path.{_≡_, refl, sym, ap, _∙_}
 use mathlib.Core.List.{List, [], _∷_}
 use mathlib.Core.Bool.{Bool, true, false, _||_, not, and-false}
 use native.Mathlib.Omega.{arith}
@@ -106,3 +107,35 @@ pub taken-code : (metal : List (List ℕ)) (k v : ℕ) → k < length metal → 
 taken-code metal k v on few =
     let number : 0 + k ≡ k = omega arith in
     rw number at (taken-from 0 metal k v on (omega arith))
+
+-- ---- the net's own
+
+-- whether the k-th list holds the vertex
+unfoldable pub holdsAt : (k : ℕ) → List (List ℕ) → (v : ℕ) → Bool
+holdsAt k [] v = false
+holdsAt zero (own ∷ others) v = member v own
+holdsAt (suc k) (other ∷ rest) v = holdsAt k rest v
+
+-- some list holds it and no other does
+held-alone : (metal : List (List ℕ)) (k v : ℕ) → any (member v) metal ≡ true → othersHold k metal v ≡ false → holdsAt k metal v ≡ true
+unfolding any othersHold holdsAt
+held-alone [] k v some none = some
+held-alone (own ∷ others) zero v some none = by (member v own) (any (member v) others) some none
+  where
+    by : (b c : Bool) → (b || c) ≡ true → c ≡ false → b ≡ true
+    by true c e f = refl
+    by false c e f = absurd (not-both e f)
+held-alone (other ∷ rest) (suc k) v some none = by (member v other) (othersHold k rest v) some none (held-alone rest k v)
+  where
+    by : (b c : Bool) → (b || any (member v) rest) ≡ true → (b || c) ≡ false → (any (member v) rest ≡ true → c ≡ false → holdsAt k rest v ≡ true)
+        → holdsAt k rest v ≡ true
+    by true c e f rest = absurd (not-both refl f)
+    by false c e f rest = rest e f
+
+-- the net's own code: its list holds the vertex
+pub code-own : (metal : List (List ℕ)) (k v : ℕ) → k < length metal → length metal ≤ 255 → netCode 0 1 metal v ≡ suc k → holdsAt k metal v ≡ true
+code-own metal k v on few code = by (any (member v) metal) refl
+  where
+    by : (b : Bool) → any (member v) metal ≡ b → holdsAt k metal v ≡ true
+    by true e = held-alone metal k v e (taken-code metal k v on few ∙ ap (takenCode (suc k)) code ∙ taken-own (suc k))
+    by false e = absurd (omega (arith, code, code-none 0 1 metal v e))

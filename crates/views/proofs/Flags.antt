@@ -1,13 +1,13 @@
 -- The flags of a byte.
 --     flag-below, byte-flags     a flag, and the three flags' sum
 --     byte-holds                 the flags read back
---     unblocked, byte-opened     a byte with the blocked flag taken off, or not
+--     byte-opened                the byte of one of the net's own pins, or not
 use Prim.Native.Nat.{ℕ, _+_, _-_, _%_, _≤_}
 use mathlib.Core.Path.{_≡_, refl}
 use mathlib.Core.Bool.{Bool, true, false, _&&_, not, cond}
 use native.Mathlib.Omega.{arith}
 use Rattle.rules.specs.Seen.{holds}
-use Rattle.views.specs.Sight.{seenByte}
+use Rattle.views.specs.Sight.{takenCode, seenByte, ownByte}
 
 -- what stands for a flag is no more than it
 pub flag-below : {byte : ℕ} (b : Bool) (flag : ℕ) → byte ≡ cond b flag 0 → byte ≤ flag
@@ -32,19 +32,28 @@ byte-holds false true false = (refl, refl, refl)
 byte-holds false false true = (refl, refl, refl)
 byte-holds false false false = (refl, refl, refl)
 
--- a byte with the blocked flag taken off
-abbrev pub unblocked : (byte : ℕ) → ℕ
-unblocked byte = byte - byte % 2
-
--- taken off at the net's own pins, and left elsewhere
-pub byte-opened : (own b t o : Bool) → cond own (unblocked (seenByte b t o)) (seenByte b t o) ≡ seenByte (not own && b) t o
-unfolding seenByte
-byte-opened false b t o = refl
-byte-opened true true true true = refl
-byte-opened true true true false = refl
-byte-opened true true false true = refl
-byte-opened true true false false = refl
-byte-opened true false true true = refl
-byte-opened true false true false = refl
-byte-opened true false false true = refl
-byte-opened true false false false = refl
+-- made anew at the net's own pins, and left elsewhere
+pub byte-opened : (n code : ℕ) (own b t o : Bool)
+    → cond own (ownByte n code (seenByte b t o)) (seenByte b t o) ≡ seenByte (not own && b) (cond own (takenCode n code) t) o
+unfolding seenByte ownByte
+byte-opened n code false b t o = refl
+byte-opened n code true b t o = by (takenCode n code) b t o
+  where
+    by : (taken b t o : Bool) → cond b 1 0 + cond t 2 0 + cond o 4 0 - (cond b 1 0 + cond t 2 0 + cond o 4 0) % 4 + cond taken 2 0
+        ≡ cond false 1 0 + cond taken 2 0 + cond o 4 0
+    by true true true true = refl
+    by true true true false = refl
+    by true true false true = refl
+    by true true false false = refl
+    by true false true true = refl
+    by true false true false = refl
+    by true false false true = refl
+    by true false false false = refl
+    by false true true true = refl
+    by false true true false = refl
+    by false true false true = refl
+    by false true false false = refl
+    by false false true true = refl
+    by false false true false = refl
+    by false false false true = refl
+    by false false false false = refl

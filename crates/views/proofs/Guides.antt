@@ -15,7 +15,7 @@ use Rattle.job.specs.Structs.{boxOf, boxStruct}
 use Rattle.job.specs.declared.groups.Box.{Box as BoxStruct}
 use Rattle.rules.specs.Tracks.{vertexBy}
 use Rattle.rules.specs.Views.{inBox, inGuide}
-use Rattle.views.specs.Sight.{boxIn, boxesIn, takenCode, seenByte, guidedByte, GuidedWhere, sightOf}
+use Rattle.views.specs.Sight.{boxIn, boxesIn, seenByte, guidedByte, GuidedWhere, sightOf}
 use Rattle.views.proofs.Spans.{guided-twice}
 
 -- the flag of the outside, taken off where it stands
@@ -36,22 +36,22 @@ guide-all numbers b t w (suc n) =
     let all : suc n - 0 ≡ suc n = omega arith in
     rw (all, ne-eqb (suc n) 0 (λ e. omega (arith, e))) (guided-flag b t (any (inBox w) (boxesIn numbers 0 (suc n))))
 
-module _ (g : Grid) (marks codes numbers : List ℕ) (n net : ℕ) where
+module _ (g : Grid) (marks codes numbers : List ℕ) (n : ℕ) where
   -- before a turn: the boxes that are left make the bytes whole
   pub record BoxesLeft (found seen : List ℕ) (i : ℕ) : Type 0 where
     pub size : length seen ≡ length found
     pub left : (v : ℕ) → v < vertices g
-        → guidedByte (any (inBox (vertexBy g v)) (boxesIn numbers (6 * i) (n - i))) (getD seen v 0) ≡ sightOf g marks codes (boxesIn numbers 0 n) net v
+        → guidedByte (any (inBox (vertexBy g v)) (boxesIn numbers (6 * i) (n - i))) (getD seen v 0) ≡ sightOf g marks codes (boxesIn numbers 0 n) v
 
   -- before the first turn: the bytes tell of the marks and the codes
   pub guide-begin : {found : List ℕ}
-      → ((v : ℕ) → v < vertices g → getD found v 0 ≡ seenByte (not (eqb (getD marks v 0) 0)) (takenCode net (getD codes v 0)) (not (eqb n 0)))
+      → ((v : ℕ) → v < vertices g → getD found v 0 ≡ seenByte (not (eqb (getD marks v 0) 0)) (not (eqb (getD codes v 0) 0)) (not (eqb n 0)))
       → BoxesLeft found found 0
   unfolding sightOf
   guide-begin made =
       record {
         size = refl;
-        left = λ v on. ap (guidedByte _) (made v on) ∙ guide-all numbers (not (eqb (getD marks v 0) 0)) (takenCode net (getD codes v 0)) (vertexBy g v) n;
+        left = λ v on. ap (guidedByte _) (made v on) ∙ guide-all numbers (not (eqb (getD marks v 0) 0)) (not (eqb (getD codes v 0) 0)) (vertexBy g v) n;
       }
 
   module _ {found seen : List ℕ} {i : ℕ} (h : BoxesLeft found seen i) where
@@ -71,12 +71,12 @@ module _ (g : Grid) (marks codes numbers : List ℕ) (n net : ℕ) where
       where
         left : (v : ℕ) → v < vertices g
             → guidedByte (any (inBox (vertexBy g v)) (boxesIn numbers (6 * (i + 1)) (n - (i + 1)))) (getD after v 0)
-            ≡ sightOf g marks codes (boxesIn numbers 0 n) net v
+            ≡ sightOf g marks codes (boxesIn numbers 0 n) v
         left v on =
             ap (guidedByte _) (finds v on ∙ ap (λ (x : BoxStruct). guidedByte (inBox (vertexBy g v) (boxOf x)) (getD seen v 0)) read)
             ∙ guided-twice _ _ (getD seen v 0) ∙ ap (λ (p : Bool). guidedByte p (getD seen v 0)) (sym (guide-next more (vertexBy g v))) ∙ h .left v on
 
     -- after the last turn every vertex has its byte
-    pub guide-end : n ≤ i → (v : ℕ) → v < vertices g → getD seen v 0 ≡ sightOf g marks codes (boxesIn numbers 0 n) net v
+    pub guide-end : n ≤ i → (v : ℕ) → v < vertices g → getD seen v 0 ≡ sightOf g marks codes (boxesIn numbers 0 n) v
     unfolding boxesIn any guidedByte
     guide-end done v on = let none : n - i ≡ 0 = omega arith in rw none at (h .left v on)

@@ -5,11 +5,11 @@
 use Prim.Native.Nat.{ℕ, suc, _≤_, _<_}
 use mathlib.Core.Path.{_≡_, refl, sym, ap, _∙_}
 use mathlib.Core.List.{List, [], _∷_, _++_, map}
-use mathlib.Core.Bool.{Bool, true, false, _&&_, _||_, not, Bool·not-not}
+use mathlib.Core.Bool.{Bool, true, false, _&&_, _||_, not, cond, and-true, Bool·not-not}
 use native.Mathlib.Omega.{arith}
 use lib.ListN.{length, getD, take, length-append}
 use lib.Dec.{ltb, eqb}
-use borrow.Author.Tests.{ltb-true}
+use borrow.Author.Tests.{ltb-true, ne-eqb}
 use Rattle.job.specs.Grid.{Grid, vertices}
 use Rattle.job.specs.Job.{Box, Net, Job}
 use Rattle.job.specs.Reading.{onObstacle}
@@ -17,6 +17,7 @@ use Rattle.job.proofs.Grids.{below-inside}
 use Rattle.rules.specs.Tracks.{vertexBy}
 use Rattle.rules.specs.Views.{member, othersHold, inGuide, pinsOf, boxesOf, viewOf}
 use Rattle.rules.specs.Seen.{holds, viewBy}
+use Rattle.rules.proofs.Members.{not-both}
 use Rattle.rules.proofs.Vertices.{number-vertex, vertex-below}
 use Rattle.views.specs.Sight.{boxesIn, takenCode, seenByte, NetAtHand, sightOf, opened}
 use Rattle.views.proofs.Flags.{byte-holds, byte-opened}
@@ -48,10 +49,11 @@ agree-and v n {a} {b} h = by (ltb v n) refl
 
 module _ {j : Job} {k : ℕ} {metal : List (List ℕ)} {marks codes pins boxes : List ℕ} {pinCount boxCount : ℕ}
     (hand : NetAtHand j k metal marks codes pins boxes pinCount boxCount) (made : List ℕ)
-    (sights : (v : ℕ) → v < vertices (j .grid) → getD made v 0 ≡ sightOf (j .grid) marks codes (boxesIn boxes 0 boxCount) (suc k) v) where
+    (sights : (v : ℕ) → v < vertices (j .grid) → getD made v 0 ≡ sightOf (j .grid) marks codes (boxesIn boxes 0 boxCount) v)
+    (long : vertices (j .grid) ≤ length made) where
   -- the bytes, with the net's own pins open
   abbrev bytes : List ℕ
-  bytes = opened (take pinCount pins) made
+  bytes = opened (suc k) codes (take pinCount pins) made
 
   module _ (v : ℕ) (on : v < vertices (j .grid)) where
     -- whether the vertex is one of the net's own pins, is marked, has another net's code, lies outside the guide
@@ -69,8 +71,15 @@ module _ {j : Job} {k : ℕ} {metal : List (List ℕ)} {marks codes pins boxes :
 
     -- the byte of the vertex
     byte-at : getD bytes v 0 ≡ seenByte (not own && marked) taken outside
-    unfolding sightOf
-    byte-at = opened-at (take pinCount pins) made v ∙ rw (sights v on, hand .ownPins, hand .ownBoxes) (byte-opened own marked taken outside)
+    unfolding sightOf takenCode
+    byte-at =
+        opened-at (suc k) codes (take pinCount pins) made v (omega (arith, on, long))
+        ∙ rw (sights v on, hand .ownPins, hand .ownBoxes) (byte-opened (suc k) (getD codes v 0) own marked (not (eqb (getD codes v 0) 0)) outside)
+        ∙ ap (λ (b : Bool). seenByte (not own && marked) b outside) (by own refl)
+      where
+        by : (b : Bool) → own ≡ b → cond b (takenCode (suc k) (getD codes v 0)) (not (eqb (getD codes v 0) 0)) ≡ taken
+        by true e = refl
+        by false e = rw (ne-eqb (getD codes v 0) (suc k) (λ f. not-both (hand .fresh v on f) e)) (sym (and-true (not (eqb (getD codes v 0) 0))))
 
     -- blocked: an obstacle or another net's pin
     blocked-at : holds 1 (getD bytes v 0)
@@ -109,6 +118,6 @@ module _ {j : Job} {k : ℕ} {metal : List (List ℕ)} {marks codes pins boxes :
 -- the bytes that the code has made
 pub seen-view : {g : Grid} {n : ℕ} {j : Job} {k : ℕ} {metal : List (List ℕ)} {marks codes pins boxes seen : List ℕ}
     {pinCount boxCount : ℕ} (made : List ℕ)
-    → ((v : ℕ) → v < vertices g → getD made v 0 ≡ sightOf g marks codes (boxesIn boxes 0 boxCount) n v) → seen ≡ opened (take pinCount pins) made
-    → g ≡ j .grid → n ≡ suc k → NetAtHand j k metal marks codes pins boxes pinCount boxCount → viewBy g seen ≡ viewOf j k metal
-seen-view made sights opens grid number hand = rw (opens, grid) (view-made hand made (rw (grid, number) at sights))
+    → ((v : ℕ) → v < vertices g → getD made v 0 ≡ sightOf g marks codes (boxesIn boxes 0 boxCount) v) → vertices g ≤ length made
+    → seen ≡ opened n codes (take pinCount pins) made → g ≡ j .grid → n ≡ suc k → NetAtHand j k metal marks codes pins boxes pinCount boxCount → viewBy g seen ≡ viewOf j k metal
+seen-view made sights long opens grid number hand = rw (opens, grid, number) (view-made hand made (rw grid at sights) (rw grid at long))

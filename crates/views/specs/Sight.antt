@@ -5,11 +5,12 @@
 --     inLayer, inRow            a box's vertices on one layer, and on one row
 --     guidedByte, GuidedWhere   the bytes of vertices that are found inside the guide
 --     NetAtHand                 the net of a job that these are of
---     sightOf, opened           the byte of a vertex with every net's pins blocked, and with the net's own open
+--     sightOf                   the byte of a vertex where every net's pins are blocked and every net's metal is taken
+--     ownByte, opened           the byte of one of the net's own pins from that, and all bytes with its pins made so
 use Prim.Native.Nat.{ℕ, zero, suc, _+_, _-_, _%_, _<_}
 use mathlib.Core.Path.{_≡_}
 use mathlib.Core.List.{List, [], _∷_, _++_}
-use mathlib.Core.Bool.{Bool, _&&_, not, cond}
+use mathlib.Core.Bool.{Bool, true, _&&_, not, cond}
 use lib.ListN.{length, getD, set, take}
 use lib.Dec.{eqb}
 use Rattle.job.specs.Grid.{Grid, Vertex, vertices}
@@ -17,7 +18,7 @@ use Rattle.job.specs.Job.{Box, Net, Job}
 use Rattle.job.specs.Good.{allPins, GoodJob}
 use Rattle.marks.specs.Marks.{Marks}
 use Rattle.rules.specs.Tracks.{vertexBy}
-use Rattle.rules.specs.Views.{between, inGuide, pinsOf}
+use Rattle.rules.specs.Views.{between, member, inGuide, pinsOf}
 use Rattle.rules.specs.Maps.{netCode}
 
 -- the box whose six numbers stand from a place on
@@ -73,13 +74,19 @@ pub record NetAtHand (j : Job) (k : ℕ) (metal : List (List ℕ)) (marks codes 
   pub coded : (v : ℕ) → v < vertices (j .grid) → getD codes v 0 ≡ netCode 0 1 metal v
   pub ownPins : take pinCount pins ≡ pinsOf (j .grid) net
   pub ownBoxes : boxesIn boxes 0 boxCount ≡ net .boxes
+  -- before its first join a net's own metal is its pins
+  pub fresh : (v : ℕ) → v < vertices (j .grid) → getD codes v 0 ≡ suc k → member v (pinsOf (j .grid) net) ≡ true
 
--- the byte of a vertex where every net's pins are blocked
-unfoldable pub sightOf : Grid → (marks codes : List ℕ) → List Box → (n v : ℕ) → ℕ
-sightOf g marks codes boxes n v =
-    seenByte (not (eqb (getD marks v 0) 0)) (takenCode n (getD codes v 0)) (not (inGuide boxes (vertexBy g v)))
+-- the byte of a vertex where every net's pins are blocked and every net's metal is taken
+unfoldable pub sightOf : Grid → (marks codes : List ℕ) → List Box → (v : ℕ) → ℕ
+sightOf g marks codes boxes v =
+    seenByte (not (eqb (getD marks v 0) 0)) (not (eqb (getD codes v 0) 0)) (not (inGuide boxes (vertexBy g v)))
 
--- with the blocked flag taken off some vertices
-unfoldable pub opened : (vs seen : List ℕ) → List ℕ
-opened [] seen = seen
-opened (v ∷ vs) seen = opened vs (set seen v (getD seen v 0 - getD seen v 0 % 2))
+-- the byte of one of the net's own pins, from that: it is not blocked, and it is taken by another net's code
+unfoldable pub ownByte : (n code byte : ℕ) → ℕ
+ownByte n code byte = byte - byte % 4 + cond (takenCode n code) 2 0
+
+-- with some pins made so
+unfoldable pub opened : (n : ℕ) → (codes vs seen : List ℕ) → List ℕ
+opened n codes [] seen = seen
+opened n codes (v ∷ vs) seen = opened n codes vs (set seen v (ownByte n (getD codes v 0) (getD seen v 0)))

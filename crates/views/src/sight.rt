@@ -11,7 +11,7 @@ ghost use Rattle.job.specs.Job.{Job};
 ghost use Rattle.job.specs.Structs.{Sized, gridOf, boxOf};
 ghost use Rattle.rules.specs.Views.{inBox, viewOf};
 ghost use Rattle.rules.specs.Seen.{viewBy};
-ghost use Rattle.views.specs.Sight.{boxesIn, takenCode, seenByte, inRow, inLayer, GuidedWhere, NetAtHand, sightOf, opened};
+ghost use Rattle.views.specs.Sight.{boxesIn, takenCode, seenByte, inRow, inLayer, GuidedWhere, NetAtHand, sightOf, ownByte, opened};
 use crate::guide::box_in;
 use job::grid::Grid;
 use job::grid::Vertex;
@@ -35,30 +35,31 @@ fn taken_by(net: u16, code: u16) -> bool
     code != 0 && code != net
 }
 
-// The byte of a vertex with a mark and a code. Its mark is not 0 on an obstacle and on every net's pin.
-fn byte_of(mark: u8, code: u16, net: u16, inside: bool) -> u8
-    ensures { λ r. ⌜ r ≡ seenByte (not (eqb mark 0)) (takenCode net code) (not inside) ⌝ }
+// The byte of a vertex with a mark and a code, where every net's pins are blocked and every net's metal is taken. The mark is not 0 on an obstacle
+// and on every net's pin.
+fn byte_of(mark: u8, code: u16, inside: bool) -> u8
+    ensures { λ r. ⌜ r ≡ seenByte (not (eqb mark 0)) (not (eqb code 0)) (not inside) ⌝ }
 {
     let blocked = flag_if(mark != 0, BLOCKED);
-    let taken = flag_if(taken_by(net, code), TAKEN);
+    let taken = flag_if(code != 0, TAKEN);
     blocked + taken + flag_if(!inside, OUTSIDE)
 }
 
-// The bytes of the first vertices, in one pass: every net's pins are blocked, and all vertices are inside the guide or none is.
-fn see_marks(
-    seen: &mut [u8],
-    marks: &[u8; 16384],
-    map: &[u16],
-    count: usize,
-    net: u16,
-    inside: bool,
-)
+// The byte of one of the net's own pins, from that: it is not blocked, and the net's own metal is not taken.
+fn own_byte(byte: u8, code: u16, net: u16) -> u8
+    ensures { λ r. ⌜ r ≡ ownByte net code byte ⌝ }
+{
+    byte - byte % OUTSIDE + flag_if(taken_by(net, code), TAKEN)
+}
+
+// The bytes of the first vertices, in one pass: all vertices are inside the guide or none is.
+fn see_marks(seen: &mut [u8], marks: &[u8; 16384], map: &[u16], count: usize, inside: bool)
     requires { ⌜ (count ≤ length (now seen)) × (count ≤ length (now map)) × (count ≤ 16384) ⌝ }
     ensures { λ _. ⌜ ((v : ℕ) → v < count → getD (now (seen .exit)) v 0
-        ≡ seenByte (not (eqb (getD (now (marks .entry)) v 0) 0)) (takenCode net (getD (now (map .entry)) v 0)) (not inside)) ⌝ }
+        ≡ seenByte (not (eqb (getD (now (marks .entry)) v 0) 0)) (not (eqb (getD (now (map .entry)) v 0) 0)) (not inside)) ⌝ }
 {
     for v in 0..count {
-        seen[v] = byte_of(marks[v], map[v], net, inside);
+        seen[v] = byte_of(marks[v], map[v], inside);
     }
 }
 
@@ -111,7 +112,7 @@ fn guide_box(seen: &mut [u8], grid: Grid, guide: Box)
     }
 }
 
-// Every net's pins are blocked. No boxes: the whole grid is inside the guide.
+// No boxes: the whole grid is inside the guide.
 fn see_grid(
     seen: &mut [u8],
     marks: &[u8; 16384],
@@ -119,27 +120,25 @@ fn see_grid(
     grid: Grid,
     boxes: &[usize; 90],
     count: usize,
-    net: u16,
 )
     requires { ⌜ (Sized grid) × (vertices (gridOf grid) ≤ length (now seen)) × (vertices (gridOf grid) ≤ length (now map)) × (count ≤ 15) ⌝ }
     ensures { λ _. ⌜ ((v : ℕ) → v < vertices (gridOf grid) → getD (now (seen .exit)) v 0
-        ≡ sightOf (gridOf grid) (now (marks .entry)) (now (map .entry)) (boxesIn (now (boxes .entry)) 0 count) net v) ⌝ }
+        ≡ sightOf (gridOf grid) (now (marks .entry)) (now (map .entry)) (boxesIn (now (boxes .entry)) 0 count) v) ⌝ }
 {
-    see_marks(seen, marks, map, grid.vertices(), net, count == 0);
+    see_marks(seen, marks, map, grid.vertices(), count == 0);
     for i in 0..count {
         guide_box(seen, grid, box_in(boxes, 6 * i));
     }
 }
 
-// The net's own pins are not blocked.
-fn open_pins(seen: &mut [u8; 16384], pins: &[usize], count: usize)
-    requires { ⌜ (count ≤ length (now pins)) × (All (λ v. v < 16384) (take count (now pins))) ⌝ }
-    ensures { λ _. ⌜ now (seen .exit) ≡ opened (take count (now (pins .entry))) (now (seen .entry)) ⌝ }
+// The net's own pins.
+fn open_pins(seen: &mut [u8; 16384], map: &[u16], pins: &[usize], count: usize, net: u16)
+    requires { ⌜ (count ≤ length (now pins)) × (All (λ v. (v < 16384) × (v < length (now map))) (take count (now pins))) ⌝ }
+    ensures { λ _. ⌜ now (seen .exit) ≡ opened net (now (map .entry)) (take count (now (pins .entry))) (now (seen .entry)) ⌝ }
 {
     for i in 0..count {
         let pin = pins[i];
-        let byte = seen[pin];
-        seen[pin] = byte - byte % 2;
+        seen[pin] = own_byte(seen[pin], map[pin], net);
     }
 }
 
@@ -156,11 +155,11 @@ pub fn see_net(
     net: u16,
 )
     requires { ⌜ (Sized grid) × (vertices (gridOf grid) ≤ length (now map)) × (pincount ≤ 16) × (boxcount ≤ 15) ⌝ }
-    requires { ⌜ All (λ v. v < 16384) (take pincount (now pins)) ⌝ }
+    requires { ⌜ All (λ v. v < vertices (gridOf grid)) (take pincount (now pins)) ⌝ }
     ensures { λ _. ⌜ ((j : Job) (k : ℕ) (metal : List (List ℕ)) → gridOf grid ≡ j .grid → net ≡ suc k
         → NetAtHand j k metal (now (marks .entry)) (now (map .entry)) (now (pins .entry)) (now (boxes .entry)) pincount boxcount
         → viewBy (gridOf grid) (now (seen .exit)) ≡ viewOf j k metal) ⌝ }
 {
-    see_grid(seen, marks, map, grid, boxes, boxcount, net);
-    open_pins(seen, pins, pincount);
+    see_grid(seen, marks, map, grid, boxes, boxcount);
+    open_pins(seen, map, pins, pincount, net);
 }

@@ -9,10 +9,11 @@
 --     net-below, nets-room, nets-kept
 use Prim.Native.Nat.{ℕ, suc, _+_, _-_, _≤_, _<_}
 use mathlib.Core.Path.{_≡_, refl, sym, ap, subst, _∙_}
-use mathlib.Core.List.{List, [], _∷_, _++_, append-assoc}
+use mathlib.Core.List.{List, [], _∷_, _++_, map, append-assoc}
 use mathlib.Core.Bool.{true, or-true}
+use native.Mathlib.Nat.{le-refl}
 use native.Mathlib.Omega.{arith}
-use lib.ListN.{length, take, replicate, length-append, length-map}
+use lib.ListN.{length, getD, take, replicate, length-append, length-map}
 use lib.Seq.{length-sets}
 use lib.Dec.{eqb}
 use Rattle.bits.specs.Bits.{bitsOf}
@@ -39,9 +40,11 @@ use Rattle.tree.proofs.Turns.{pin-count}
 use Rattle.tree.proofs.Marked.{spots-begun, begun-long}
 use Rattle.views.specs.Sight.{boxesIn, NetAtHand}
 use Rattle.views.proofs.Arrays.{boxes-in}
+use Rattle.views.proofs.Codes.{holdsAt, code-own}
 use Rattle.walker.specs.Entering.{Arrays}
 use Rattle.walker.specs.Standing.{AtNet}
 use Rattle.walker.specs.Structs.{NetsHeld}
+use Rattle.walker.proofs.Metals.{Later, holds-at}
 
 -- numbers below a bound are below a higher one
 all-below : {m n : ℕ} → m ≤ n → (vs : List ℕ) → All (λ v. v < m) vs → All (λ v. v < n) vs
@@ -70,6 +73,8 @@ module _ (bytes : List ℕ) (tech : TechStruct) (marks found : List ℕ) {count 
     pub sixteen : length pins ≡ 16
     pub ninety : length boxes ≡ 90
     pub metals : length metal ≡ length (held .job .nets)
+    -- the nets to come have their pins alone
+    pub ahead : (i v : ℕ) → length before ≤ i → holdsAt i metal v ≡ holdsAt i (metalAtFirst (held .job)) v
     pub coded : Codes (held .job .grid) metal codes
     pub kept : Beyond (vertices (held .job .grid)) codes found
 
@@ -86,6 +91,7 @@ module _ (bytes : List ℕ) (tech : TechStruct) (marks found : List ℕ) {count 
         sixteen = sixteen;
         ninety = ninety;
         metals = length-map (held .job .nets) _;
+        ahead = λ i v h. refl;
         coded = held .coded;
         kept = beyond-refl _ found;
       }
@@ -210,7 +216,7 @@ module _ (bytes : List ℕ) (tech : TechStruct) (marks found : List ℕ) {count 
 
         -- it is the net at hand
         at-hand : NetAtHand (held .job) (length before) metal marks codes pins′ boxes′ (loaded .pins) (loaded .boxes)
-        unfolding Codes
+        unfolding Codes metalAtFirst
         at-hand =
             record {
               job = rules;
@@ -224,7 +230,19 @@ module _ (bytes : List ℕ) (tech : TechStruct) (marks found : List ℕ) {count 
               coded = so-far .coded;
               ownPins = own-pins;
               ownBoxes = own-boxes;
+              fresh = fresh-now;
             }
+          where
+            few : length metal ≤ 255
+            few = omega (arith, so-far .metals, rules .nets)
+
+            own-first : (v : ℕ) → holdsAt (length before) (metalAtFirst (held .job)) v ≡ member v own
+            own-first v = ap (λ (ns : List Net). holdsAt (length before) (map (pinsOf (held .job .grid)) ns) v) split ∙ holds-at (pinsOf (held .job .grid)) before (hand .0) (hand .1) v
+
+            fresh-now : (v : ℕ) → v < vertices (held .job .grid) → getD codes v 0 ≡ suc (length before) → member v own ≡ true
+            fresh-now v on code =
+                sym (own-first v) ∙ sym (so-far .ahead (length before) v (le-refl (length before)))
+                ∙ code-own metal (length before) v known few (sym (so-far .coded v on) ∙ code)
 
         -- the arrays before its first record
         abbrev pub first : Arrays
@@ -260,10 +278,10 @@ module _ (bytes : List ℕ) (tech : TechStruct) (marks found : List ℕ) {count 
         one-on = omega (arith, length-append before (hand .0 ∷ []))
 
         -- after its last record
-        pub nets-on : {after-metal : List (List ℕ)} {after-codes : List ℕ} → length after-metal ≡ length (begun own metal .metal)
+        pub nets-on : {after-metal : List (List ℕ)} {after-codes : List ℕ} → Later (length before) (begun own metal .metal) after-metal
             → Codes (held .job .grid) after-metal after-codes → Beyond (vertices (held .job .grid)) after-codes found
             → Nets (before ++ (hand .0 ∷ [])) (hand .1) after-metal after-codes pins′ boxes′ (loaded .next) (net + 1) (left - 1)
-        nets-on metals coded kept =
+        nets-on {after-metal} later coded kept =
             record {
               nets = split ∙ sym (append-assoc before (hand .0 ∷ []) (hand .1));
               number = omega (arith, one-on, so-far .number);
@@ -271,7 +289,11 @@ module _ (bytes : List ℕ) (tech : TechStruct) (marks found : List ℕ) {count 
               bit = rw (one-on, isLoaded) (sym (hand-held .next));
               sixteen = sixteen-now;
               ninety = ninety-now;
-              metals = metals ∙ ap (λ (m : List (List ℕ)). length m) (begun-metal own metal) ∙ so-far .metals;
+              metals = here .long ∙ so-far .metals;
+              ahead = λ i v h. here .same i v (omega (arith, h, one-on)) ∙ so-far .ahead i v (omega (arith, h, one-on));
               coded = coded;
               kept = kept;
             }
+          where
+            here : Later (length before) metal after-metal
+            here = rw (begun-metal own metal) at later

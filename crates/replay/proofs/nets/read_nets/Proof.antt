@@ -5,7 +5,7 @@ use borrow.Author.Needs.{needs}
 use Rattle.bits.specs.Bits.{bitsOf}
 use Rattle.bits.proofs.Laws.{bitsOf-bits}
 use Rattle.replay.specs.Structs.{NetFits}
-use Rattle.walker.proofs.Nets.{nets-sized, nets-room, nets-kept, net-below, hand-held, pins-fit, boxes-few}
+use Rattle.walker.proofs.Nets.{nets-sized, nets-room, nets-kept, net-below, hand-held, pins-fit, pins-below, boxes-few}
 use Rattle.replay.proofs.Netting.{Netting, netting-begun, bounded-next, netting-refused, netting-kept, netting-on, netting-done, fits-all}
 use Rattle.replay.proofs.nets.read_nets.Statement.{statement}
 use Rattle.replay.proofs.nets.read_nets.Tie as tie
@@ -43,7 +43,7 @@ see-net-requires c κs =
         own .few,
         boxes-few _ _ _ _ _ (inv .nets) some (loaded .0) (loaded .1 .0) (loaded .1 .1),
       ),
-      own .onGrid,
+      pins-below _ _ _ _ _ (inv .nets) some (loaded .0) (loaded .1 .0) (loaded .1 .1),
     )
 
 read-net-requires : tie.Need-read-net-requires Inv-loop μ-loop

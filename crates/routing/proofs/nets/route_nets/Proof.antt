@@ -55,7 +55,7 @@ see-net-requires c κs =
         own .few,
         boxes-few _ _ _ _ _ (inv .nets) some (loaded .0) (loaded .1 .0) (loaded .1 .1),
       ),
-      own .onGrid,
+      pins-below _ _ _ _ _ (inv .nets) some (loaded .0) (loaded .1 .0) (loaded .1 .1),
     )
 
 fill-runs-requires : tie.Need-fill-runs-requires Inv-loop μ-loop

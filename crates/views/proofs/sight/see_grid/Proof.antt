@@ -8,10 +8,10 @@ use Rattle.views.proofs.sight.see_grid.Statement.{statement}
 use Rattle.views.proofs.sight.see_grid.Tie as tie
 
 abbrev Inv-loop : tie.InvT-loop
-Inv-loop seen₀ marks map grid boxes count net i₀ seen i = BoxesLeft (gridOf grid) marks map boxes count net seen₀ seen i
+Inv-loop seen₀ marks map grid boxes count i₀ seen i = BoxesLeft (gridOf grid) marks map boxes count seen₀ seen i
 
 abbrev μ-loop : tie.MeasureT-loop
-μ-loop seen₀ marks map grid boxes count net i₀ seen i = count - i
+μ-loop seen₀ marks map grid boxes count i₀ seen i = count - i
 
 vertices-requires : tie.Need-vertices-requires Inv-loop μ-loop
 vertices-requires c κs = c .before .before .before .pre .0 .small
@@ -20,7 +20,7 @@ see-marks-requires : tie.Need-see-marks-requires Inv-loop μ-loop
 see-marks-requires c κs = (omega arith, omega arith, omega (arith, c .before .before .before .before .pre .0 .vertices))
 
 loop-holds : tie.Need-loop-holds Inv-loop μ-loop
-loop-holds c = guide-begin _ _ _ _ _ _ (λ v on. (c .before .before .see-marks .ensures) v (omega (arith, on, c .before .before .before .vertices .ensures)))
+loop-holds c = guide-begin _ _ _ _ _ (λ v on. (c .before .before .see-marks .ensures) v (omega (arith, on, c .before .before .before .vertices .ensures)))
 
 mul-box-in : tie.Need-mul-box-in Inv-loop μ-loop
 mul-box-in c = omega arith
@@ -38,13 +38,13 @@ loop-less : tie.Need-loop-less Inv-loop μ-loop
 loop-less c = omega arith
 
 loop-again : tie.Need-loop-again Inv-loop μ-loop
-loop-again c = guide-turn _ _ _ _ _ _ (c .before .before .before .before .before .before .loop .inv) (c .before .before .before .before .before .loop-test .taken) (c .before .before .before .box-in .ensures) (c .before .seen2 .given) (c .before .before .guide-box .ensures)
+loop-again c = guide-turn _ _ _ _ _ (c .before .before .before .before .before .before .loop .inv) (c .before .before .before .before .before .loop-test .taken) (c .before .before .before .box-in .ensures) (c .before .seen2 .given) (c .before .before .guide-box .ensures)
 
 same-length : tie.Need-same-length Inv-loop μ-loop
 same-length c = c .before .loop .inv .size ∙ (c .before .before .before .seen .given)
 
 returns : tie.Need-returns Inv-loop μ-loop
-returns c = guide-end _ _ _ _ _ _ (c .before .loop .inv) (omega arith)
+returns c = guide-end _ _ _ _ _ (c .before .loop .inv) (omega arith)
 
 pub see-grid-spec : {M : Type 1} → statement M
 see-grid-spec =

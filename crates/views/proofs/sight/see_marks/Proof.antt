@@ -4,16 +4,16 @@ use mathlib.Core.Bool.{not}
 use native.Mathlib.Omega.{arith}
 use lib.ListN.{getD}
 use lib.Dec.{eqb}
-use Rattle.views.specs.Sight.{takenCode, seenByte}
+use Rattle.views.specs.Sight.{seenByte}
 use Rattle.views.proofs.Sights.{MadeTo, made-begin, made-turn, made-end}
 use Rattle.views.proofs.sight.see_marks.Statement.{statement}
 use Rattle.views.proofs.sight.see_marks.Tie as tie
 
 abbrev Inv-loop : tie.InvT-loop
-Inv-loop seen₀ marks map count net inside v₀ seen v = MadeTo (λ w. seenByte (not (eqb (getD marks w 0) 0)) (takenCode net (getD map w 0)) (not inside)) seen₀ seen v
+Inv-loop seen₀ marks map count inside v₀ seen v = MadeTo (λ w. seenByte (not (eqb (getD marks w 0) 0)) (not (eqb (getD map w 0) 0)) (not inside)) seen₀ seen v
 
 abbrev μ-loop : tie.MeasureT-loop
-μ-loop seen₀ marks map count net inside v₀ seen v = count - v
+μ-loop seen₀ marks map count inside v₀ seen v = count - v
 
 loop-holds : tie.Need-loop-holds Inv-loop μ-loop
 loop-holds c = made-begin _ _

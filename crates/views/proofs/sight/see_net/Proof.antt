@@ -1,5 +1,6 @@
 -- `views::sight::see_net` meets its contract.
 use borrow.Author.Needs.{needs}
+use Rattle.views.proofs.Opening.{pins-fit}
 use Rattle.views.proofs.Seen.{seen-view}
 use Rattle.views.proofs.sight.see_net.Statement.{statement}
 use Rattle.views.proofs.sight.see_net.Tie as tie
@@ -8,10 +9,10 @@ see-grid-requires : tie.Need-see-grid-requires
 see-grid-requires c κs = search needs
 
 open-pins-requires : tie.Need-open-pins-requires
-open-pins-requires c κs = search needs
+open-pins-requires c κs = let pre = c .before .before .before .before .before .pre in (search needs, pins-fit (pre .0 .0 .vertices) (pre .0 .1) _ (pre .1))
 
 returns : tie.Need-returns
-returns c = λ j k metal. seen-view _ (c .before .before .before .see-grid .ensures) (c .open-pins .ensures)
+returns c = λ j k metal. seen-view _ (c .before .before .before .see-grid .ensures) (search needs) (c .open-pins .ensures)
 
 pub see-net-spec : {M : Type 1} → statement M
 see-net-spec = tie.close (tie.spec see-grid-requires open-pins-requires returns)
