@@ -3,7 +3,7 @@
 --     later-none, later-more, later-on     nothing is laid, something is, one after the other
 --     holds-at                             of lists made for each net the one of the net after some nets
 use Prim.Native.Nat.{ℕ, zero, suc, _<_}
-use mathlib.Core.Path.{_≡_, refl, sym, ap, _∙_}
+use mathlib.Core.Path.{_≡_, refl, ap, _∙_}
 use mathlib.Core.List.{List, [], _∷_, _++_, map}
 use native.Mathlib.Omega.{arith}
 use lib.ListN.{length}

@@ -6,7 +6,9 @@
 //! one is always made.
 //!
 //! How many places the library settles is told with its nanoseconds for each, all
-//! that the call does included.
+//! that the call does included, and at the end how much these differ.
+//!
+//! `cargo run --profile benchmark` makes the second router as fast as it gets.
 
 use std::time::{Duration, Instant};
 
@@ -85,7 +87,7 @@ impl Timed {
 
 fn main() {
     println!("best of several runs: library, second router, ratio; places settled, ns for each");
-    for (name, job) in benchmark::all() {
+    let all_each = benchmark::all().map(|(name, job)| {
         let mut lent = Lent::of(&job);
         let [second, library] = lent.time([routing, ROUTING]);
         assert_eq!(library.result, second.result, "{name}");
@@ -98,7 +100,11 @@ fn main() {
         println!(
             "{name}: {library_ms:.2} ms, {second_ms:.2} ms, {ratio:.2}; {settled}, {each:.0} ns (runs {runs:?})"
         );
-    }
+        each
+    });
+    let least = all_each.into_iter().fold(f64::INFINITY, f64::min);
+    let most = all_each.into_iter().fold(0.0, f64::max);
+    println!("ns for each differ by {:.2} times", most / least);
 }
 
 fn goes_on(runs: u32, taken: Duration) -> bool {

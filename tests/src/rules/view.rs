@@ -129,7 +129,7 @@ fn may_enter(board: &Board, net: u16, vertex: usize) -> Result<(), Cause> {
 
 /// The count of clear vertices beyond each vertex: none beyond the end of its
 /// track, else one more than beyond the next one, if that is clear. A track has
-/// 256 vertices at most, so the count fits.
+/// 256 vertices at most, so no more than 255 lie beyond one.
 fn clear_beyond(board: &Board, clear: &[bool], side: Side) -> Vec<u8> {
     let mut counts = vec![0; clear.len()];
     for track in board.job.grid().tracks() {
@@ -140,7 +140,11 @@ fn clear_beyond(board: &Board, clear: &[bool], side: Side) -> Vec<u8> {
                 Side::High => track.vertex(track.length - 1 - place),
             };
             counts[vertex] = count;
-            count = if clear[vertex] { count + 1 } else { 0 };
+            count = if clear[vertex] {
+                u8::saturating_add(count, 1)
+            } else {
+                0
+            };
         }
     }
     counts

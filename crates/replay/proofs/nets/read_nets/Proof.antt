@@ -1,5 +1,5 @@
 -- `replay::nets::read_nets` meets its contract: reading the nets that are left gives what reading all gives.
-use mathlib.Core.Path.{refl, sym, _∙_}
+use mathlib.Core.Path.{refl}
 use native.Mathlib.Omega.{arith}
 use borrow.Author.Needs.{needs}
 use Rattle.bits.specs.Bits.{bitsOf}
