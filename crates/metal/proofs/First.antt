@@ -19,7 +19,7 @@ use Rattle.job.specs.declared.grid.Grid.{Grid as GridStruct}
 use Rattle.job.proofs.TwoWay.{rules-hold, netAt}
 use Rattle.reader.specs.Loading.{netLoaded, pinsLoaded}
 use Rattle.reader.specs.declared.load.NetLoaded.{NetLoaded}
-use Rattle.reader.proofs.Loaded.{first-net}
+use Rattle.reader.proofs.Loaded.{first-net, all-below}
 use Rattle.rules.specs.Views.{pinsOf}
 use Rattle.rules.specs.Standings.{metalAtFirst, more}
 use Rattle.metal.specs.Codes.{layAll, Codes, Beyond, Bare}
@@ -77,12 +77,6 @@ module _ (g : Grid) where
 -- with none after, all nets are before
 all-before : {nets : List Net} (before after : List Net) → nets ≡ before ++ after → length after ≡ 0 → length before ≡ length nets
 all-before before after split none = omega (arith, ap (λ (l : List Net). length l) split, length-append before after)
-
--- numbers below a bound are below a higher one
-all-below : (m n : ℕ) → m ≤ n → (vs : List ℕ) → All (λ v. v < m) vs → All (λ v. v < n) vs
-unfolding All
-all-below m n h [] k = tt
-all-below m n h (v ∷ vs) k = (omega (arith, h, k .0), all-below m n h vs (k .1))
 
 -- ---- the loop
 
@@ -154,7 +148,7 @@ module _ {bytes : List ℕ} {g : Grid} {found held pins : List ℕ} {at net left
         rw (isPins, isLoaded, pins-here .list) (
           pins-here .few,
           omega (arith, pins-here .few, pins-here .sixteen),
-          all-below _ _ (omega (arith, so-far .room, so-far .kept .size)) (pinsOf g (next .0)) (pins-here .below),
+          all-below (omega (arith, so-far .room, so-far .kept .size)) (pinsOf g (next .0)) (pins-here .below),
         )
 
     -- its pins are laid

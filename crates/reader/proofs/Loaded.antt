@@ -1,10 +1,10 @@
 -- What is loaded of a net is the net of the job that was read.
 --     pins-loaded, boxes-loaded     the numbers of pins and of boxes whose bits stand there
---     all-one, width-more           one of many; one net more
+--     all-below, all-one, width-more     numbers below a higher bound; one of many; one net more
 --     NetTold                       a net, loaded
 --     net-loaded, net-told          a good net whose bits stand at a bit; each net of a job that was read
 --     first-net                     the first net begins where the obstacles end
-use Prim.Native.Nat.{ℕ, suc, _+_, _*_}
+use Prim.Native.Nat.{ℕ, suc, _+_, _*_, _≤_, _<_}
 use native.Mathlib.Nat.{add-zero}
 use native.Mathlib.Omega.{arith}
 use mathlib.Core.Path.{_≡_, refl}
@@ -46,6 +46,12 @@ module _ (B : List ℕ) (bits : AllBelow 2 B) (g : Grid) (small : GoodGrid g) wh
       let (first, rest) = placed-append B at (boxBits b) (concatBits boxBits bs) .0 p in
       let here = box-placed B bits at b .0 (first, box-fits g small b (h .0)) .1 in
       rw (here, boxes-loaded (at + 38) bs (rw box-bits at rest) (h .1))
+
+-- numbers below a bound are below a higher one
+pub all-below : {m n : ℕ} → m ≤ n → (vs : List ℕ) → All (λ v. v < m) vs → All (λ v. v < n) vs
+unfolding All
+all-below h [] below = tt
+all-below h (v ∷ vs) below = (omega (arith, h, below .0), all-below h vs (below .1))
 
 -- what holds of each holds of one of them
 pub all-one : {A : Type 0} (Claim : A → Type 0) (before : List A) (x : A) (after : List A) → All Claim (before ++ (x ∷ after)) → Claim x

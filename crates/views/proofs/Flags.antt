@@ -15,10 +15,10 @@ flag-below true flag e = omega arith
 flag-below false flag e = omega arith
 
 -- the three flags' sum
-pub byte-flags : (b t o : Bool) {u : Bool} {first second third : ℕ} → first ≡ cond b 1 0 → u ≡ t → second ≡ cond u 2 0 → third ≡ cond o 4 0
+pub byte-flags : (b t o : Bool) {first second third : ℕ} → first ≡ cond b 1 0 → second ≡ cond t 2 0 → third ≡ cond o 4 0
     → first + second + third ≡ seenByte b t o
 unfolding seenByte
-byte-flags b t o e f g h = rw (e, g, f, h) refl
+byte-flags b t o e f g = rw (e, f, g) refl
 
 -- the flags read back
 pub byte-holds : (b t o : Bool) → (holds 1 (seenByte b t o) ≡ b) × (holds 2 (seenByte b t o) ≡ t) × (holds 4 (seenByte b t o) ≡ o)

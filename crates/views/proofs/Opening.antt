@@ -1,5 +1,4 @@
 -- The bytes of the net's own pins.
---     pins-fit                                                    they lie in the arrays
 --     PinsToOpen, pins-begin, pin-within, pins-turn, pins-end     the loop over the pins: before a turn, the next pin, a turn, after the last
 --     opened-at                                                   the byte of a vertex afterwards
 use Prim.Native.Nat.{ℕ, suc, _+_, _-_, _%_, _≤_, _<_}
@@ -16,21 +15,16 @@ use Rattle.job.specs.Lists.{any, All}
 use Rattle.rules.specs.Views.{member}
 use Rattle.views.specs.Sight.{takenCode, ownByte, opened}
 
--- vertices of the grid lie in both arrays
-pub pins-fit : {m a b : ℕ} → m ≤ a → m ≤ b → (vs : List ℕ) → All (λ v. v < m) vs → All (λ v. (v < a) × (v < b)) vs
-unfolding All
-pins-fit h k [] all = tt
-pins-fit h k (v ∷ vs) all = ((omega (arith, h, all .0), omega (arith, k, all .0)), pins-fit h k vs (all .1))
-
 -- before a turn: opening the pins that are left gives all, and these lie in the arrays
 pub record PinsToOpen (n : ℕ) (codes pins : List ℕ) (count : ℕ) (before seen : List ℕ) (i : ℕ) : Type 0 where
-  pub within : All (λ v. (v < 16384) × (v < length codes)) (drop i (take count pins))
+  pub within : All (λ v. v < 16384) (drop i (take count pins))
+  pub mapped : All (λ v. v < length codes) (drop i (take count pins))
   pub rest : opened n codes (take count pins) before ≡ opened n codes (drop i (take count pins)) seen
 
 -- before the first turn no pin is open
-pub pins-begin : (n : ℕ) (codes pins : List ℕ) (count : ℕ) (seen : List ℕ) → All (λ v. (v < 16384) × (v < length codes)) (take count pins)
-    → PinsToOpen n codes pins count seen seen 0
-pins-begin n codes pins count seen h = record { within = h; rest = refl }
+pub pins-begin : (n : ℕ) (codes pins : List ℕ) (count : ℕ) (seen : List ℕ) → All (λ v. v < 16384) (take count pins)
+    → All (λ v. v < length codes) (take count pins) → PinsToOpen n codes pins count seen seen 0
+pins-begin n codes pins count seen h k = record { within = h; mapped = k; rest = refl }
 
 module _ {n : ℕ} {codes pins : List ℕ} {count : ℕ} {before seen : List ℕ} {i : ℕ} (h : PinsToOpen n codes pins count before seen i) where
   -- the pins that are left begin with the next
@@ -40,7 +34,7 @@ module _ {n : ℕ} {codes pins : List ℕ} {count : ℕ} {before seen : List ℕ
   -- the next pin lies in the arrays
   pub pin-within : i < count → count ≤ length pins → (getD pins i 0 < 16384) × (getD pins i 0 < length codes)
   unfolding All
-  pin-within more room = (rw (next-pin more room) at (h .within)) .0
+  pin-within more room = ((rw (next-pin more room) at (h .within)) .0, (rw (next-pin more room) at (h .mapped)) .0)
 
   -- a turn opens the next pin
   pub pins-turn : i < count → count ≤ length pins
@@ -48,7 +42,11 @@ module _ {n : ℕ} {codes pins : List ℕ} {count : ℕ} {before seen : List ℕ
   unfolding All opened
   pins-turn more room =
       rw add-one
-      (record { within = (rw (next-pin more room) at (h .within)) .1; rest = rw (next-pin more room) at (h .rest) })
+      (record {
+        within = (rw (next-pin more room) at (h .within)) .1;
+        mapped = (rw (next-pin more room) at (h .mapped)) .1;
+        rest = rw (next-pin more room) at (h .rest);
+      })
 
   -- after the last turn all pins are open
   pub pins-end : count ≤ i → seen ≡ opened n codes (take count pins) before

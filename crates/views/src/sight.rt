@@ -133,7 +133,7 @@ fn see_grid(
 
 // The net's own pins.
 fn open_pins(seen: &mut [u8; 16384], map: &[u16], pins: &[usize], count: usize, net: u16)
-    requires { ⌜ (count ≤ length (now pins)) × (All (λ v. (v < 16384) × (v < length (now map))) (take count (now pins))) ⌝ }
+    requires { ⌜ (count ≤ length (now pins)) × (All (λ v. v < 16384) (take count (now pins))) × (All (λ v. v < length (now map)) (take count (now pins))) ⌝ }
     ensures { λ _. ⌜ now (seen .exit) ≡ opened net (now (map .entry)) (take count (now (pins .entry))) (now (seen .entry)) ⌝ }
 {
     for i in 0..count {

@@ -25,7 +25,7 @@ use Rattle.job.specs.Structs.{gridOf}
 use Rattle.job.proofs.TwoWay.{rules-hold, netAt}
 use Rattle.reader.specs.Loading.{netLoaded, pinsLoaded, boxesLoaded}
 use Rattle.reader.specs.declared.load.NetLoaded.{NetLoaded}
-use Rattle.reader.proofs.Loaded.{first-net, net-told, all-one}
+use Rattle.reader.proofs.Loaded.{first-net, net-told, all-below, all-one}
 use Rattle.rules.specs.Views.{View, member, pinsOf, viewOf}
 use Rattle.rules.specs.Prices.{techOf}
 use Rattle.rules.specs.Standings.{metalAtFirst, begun, Stands}
@@ -45,12 +45,6 @@ use Rattle.walker.specs.Entering.{Arrays}
 use Rattle.walker.specs.Standing.{AtNet}
 use Rattle.walker.specs.Structs.{NetsHeld}
 use Rattle.walker.proofs.Metals.{Later, holds-at}
-
--- numbers below a bound are below a higher one
-all-below : {m n : ℕ} → m ≤ n → (vs : List ℕ) → All (λ v. v < m) vs → All (λ v. v < n) vs
-unfolding All
-all-below h [] b = tt
-all-below h (v ∷ vs) b = (omega (arith, h, b .0), all-below h vs (b .1))
 
 -- a net begins with the metal that stands
 pub begun-metal : (ps : List ℕ) (metal : List (List ℕ)) → begun ps metal .metal ≡ metal

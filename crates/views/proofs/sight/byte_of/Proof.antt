@@ -1,5 +1,4 @@
 -- `views::sight::byte_of` meets its contract.
-use mathlib.Core.Path.{refl}
 use mathlib.Core.Bool.{not}
 use native.Mathlib.Omega.{arith}
 use lib.Dec.{eqb}
@@ -30,7 +29,7 @@ add-result-2 c =
     omega arith
 
 returns : tie.Need-returns
-returns c = byte-flags _ _ _ (c .before .before .flag-if .ensures) refl (c .before .flag-if2 .ensures) (c .flag-if3 .ensures)
+returns c = byte-flags _ _ _ (c .before .before .flag-if .ensures) (c .before .flag-if2 .ensures) (c .flag-if3 .ensures)
 
 pub byte-of-spec : {M : Type 1} → statement M
 byte-of-spec = tie.close (tie.spec flag-if-requires flag-if-requires-2 add-result flag-if-requires-3 add-result-2 returns)

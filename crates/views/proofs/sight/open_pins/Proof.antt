@@ -13,7 +13,7 @@ abbrev μ-loop : tie.MeasureT-loop
 μ-loop seen₀ map pins count net i₀ seen i = count - i
 
 loop-holds : tie.Need-loop-holds Inv-loop μ-loop
-loop-holds c = pins-begin _ _ _ _ _ (c .before .before .pre .1)
+loop-holds c = pins-begin _ _ _ _ _ (c .before .before .pre .1) (c .before .before .pre .2)
 
 mul-pin : tie.Need-mul-pin Inv-loop μ-loop
 mul-pin c = search needs

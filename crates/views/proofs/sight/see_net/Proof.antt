@@ -1,6 +1,6 @@
 -- `views::sight::see_net` meets its contract.
 use borrow.Author.Needs.{needs}
-use Rattle.views.proofs.Opening.{pins-fit}
+use Rattle.reader.proofs.Loaded.{all-below}
 use Rattle.views.proofs.Seen.{seen-view}
 use Rattle.views.proofs.sight.see_net.Statement.{statement}
 use Rattle.views.proofs.sight.see_net.Tie as tie
@@ -9,7 +9,7 @@ see-grid-requires : tie.Need-see-grid-requires
 see-grid-requires c κs = search needs
 
 open-pins-requires : tie.Need-open-pins-requires
-open-pins-requires c κs = let pre = c .before .before .before .before .before .pre in (search needs, pins-fit (pre .0 .0 .vertices) (pre .0 .1) _ (pre .1))
+open-pins-requires c κs = let pre = c .before .before .before .before .before .pre in (search needs, all-below (pre .0 .0 .vertices) _ (pre .1), all-below (pre .0 .1) _ (pre .1))
 
 returns : tie.Need-returns
 returns c = λ j k metal. seen-view _ (c .before .before .before .see-grid .ensures) (search needs) (c .open-pins .ensures)
