@@ -61,7 +61,7 @@ enum maizespell_map {
 enum maizespell_stack {
     MAIZESPELL_SIZING_STACK = 18 * 1024,
     MAIZESPELL_REPLAY_STACK = 52 * 1024,
-    MAIZESPELL_ROUTING_STACK = 122 * 1024
+    MAIZESPELL_ROUTING_STACK = 74 * 1024
 };
 
 /* What sizing answers. Where the job is good, refusal and place are 0. Where it is refused, refusal is 1 to 11 and

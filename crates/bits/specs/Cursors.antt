@@ -4,7 +4,7 @@ use mathlib.Core.List.{List}
 use lib.ListN.{length}
 use Rattle.bits.specs.Bits.{bitsOf, field}
 use Rattle.bits.specs.declared.Cursor.{Cursor}
-use Rattle.bits.specs.declared.Taken.{Taken}
+use Rattle.bits.specs.declared.FieldRead.{FieldRead}
 
 -- a position and a width at which the cursor's arithmetic fits a word
 pub record Fitting (at w : ℕ) : Type 0 where
@@ -17,5 +17,5 @@ pub record Room (bytes : List ℕ) (at w : ℕ) : Type 0 where
   pub inside : at + w ≤ 8 * length bytes
 
 -- a field that was read: its number, and the cursor past it
-abbrev pub taken : (bytes : List ℕ) (at w : ℕ) → Taken
-taken bytes at w = record { value = field (bitsOf bytes) at w; next = record { at = at + w } }
+abbrev pub fieldRead : (bytes : List ℕ) (at w : ℕ) → FieldRead
+fieldRead bytes at w = record { value = field (bitsOf bytes) at w; next = record { at = at + w } }

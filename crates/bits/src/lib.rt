@@ -3,7 +3,7 @@
 ghost use mathlib.Core.Path.{_≡_};
 ghost use Prim.Native.Nat.{_+_, _-_, _*_, _^_, _<_, _≤_};
 ghost use Rattle.bits.specs.Bits.{bitsOf, fieldBits, field, whole, putBits};
-ghost use Rattle.bits.specs.Cursors.{Fitting, Room, taken};
+ghost use Rattle.bits.specs.Cursors.{Fitting, Room, fieldRead};
 
 pub mod part;
 
@@ -18,7 +18,7 @@ pub struct Cursor {
 }
 
 // A field that was read, and the cursor past it.
-pub struct Taken {
+pub struct FieldRead {
     pub value: usize,
     pub next: Cursor,
 }
@@ -33,9 +33,9 @@ impl Cursor {
     }
 
     // The number in the next `width` bits.
-    pub fn field(self, s: &[u8], width: usize) -> Taken
+    pub fn field(self, s: &[u8], width: usize) -> FieldRead
         requires { ⌜ Room (now s) (self .at) width ⌝ }
-        ensures { λ r. ⌜ r ≡ taken (now (s .entry)) (self .at) width ⌝ }
+        ensures { λ r. ⌜ r ≡ fieldRead (now (s .entry)) (self .at) width ⌝ }
     {
         let mut at = self.at;
         let mut left = width;
@@ -47,7 +47,7 @@ impl Cursor {
             at += count;
             left -= count;
         }
-        Taken {
+        FieldRead {
             value,
             next: Cursor { at },
         }

@@ -1,7 +1,7 @@
 -- An axis of the bound, and the cheapest price.
 --     Within                                      a coordinate between the ends of a span
 --     leaves-fits, leaves-small                   what a coordinate leaves fits, and is small
---     leaves-none, leaves-next                    nothing inside the span, and at most one price more than next to it
+--     leaves-none, leaves-next                    nothing inside the span, one price more a step off it
 --     axis-size, axis-turn                        an axis changes no length, and one more entry of it
 --     axis-told, axis-small                       all of its entries, and all small
 --     cheapest-turn, cheapest-fits, cheapest-of   one more price; the lowest is small, and none is lower
@@ -18,7 +18,7 @@ use Rattle.job.specs.declared.groups.Span.{Span}
 use Rattle.job.proofs.Sizes.{product-within}
 use Rattle.rules.proofs.Fitting.{one-more}
 use Rattle.tree.proofs.Marked.{set-at}
-use Rattle.tables.proofs.Tables.{Filled, filled-none, filled-turn}
+use Rattle.rules.proofs.Lists.{Filled, filled-none, filled-turn}
 use Rattle.bounds.specs.Bounds.{SmallBounds}
 use Rattle.bounds.specs.Fills.{cheapestOf, leaves, axisFilled}
 
@@ -35,7 +35,7 @@ module _ (span : Span) (price : ℕ) where
     pub leaves-fits : price * (span .low - at + (at - span .high)) ≤ 1023 * 255
     leaves-fits = product-within 1023 255 (omega arith) (omega arith)
 
-    pub leaves-small : leaves span price at ≤ 2 ^ 21
+    pub leaves-small : leaves span price at ≤ 2 ^ 22
     unfolding leaves
     leaves-small = omega (arith, leaves-fits)
 
@@ -47,7 +47,7 @@ module _ (span : Span) (price : ℕ) where
       rw (none, mul-zero) refl
 
   -- a step changes it by at most one price
-  pub leaves-next : (i j : ℕ) → i ≤ suc j → j ≤ suc i → leaves span price i ≤ 7 * price + leaves span price j
+  pub leaves-next : (i j : ℕ) → i ≤ suc j → j ≤ suc i → leaves span price i ≤ 15 * price + leaves span price j
   unfolding leaves
   leaves-next i j below above =
       let off = span .low - j + (j - span .high) in
@@ -57,11 +57,11 @@ module _ (span : Span) (price : ℕ) where
 -- ---- an axis
 
 -- a small number put anywhere leaves all small
-small-set : (bounds : List ℕ) (at value : ℕ) → SmallBounds bounds → at < length bounds → value ≤ 2 ^ 21 → SmallBounds (set bounds at value)
+small-set : (bounds : List ℕ) (at value : ℕ) → SmallBounds bounds → at < length bounds → value ≤ 2 ^ 22 → SmallBounds (set bounds at value)
 unfolding SmallBounds
 small-set bounds at value small room fits k = rw (set-at bounds at k value room) (by (eqb k at))
   where
-    by : (b : Bool) → cond b value (getD bounds k 0) ≤ 2 ^ 21
+    by : (b : Bool) → cond b value (getD bounds k 0) ≤ 2 ^ 22
     by true = fits
     by false = small k
 

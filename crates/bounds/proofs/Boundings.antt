@@ -2,14 +2,11 @@
 --     filled-small     all of its entries are small
 --     bounding         it is such a bound
 --     bounds-made      the same of what the code makes
-use Prim.Native.Nat.{ℕ, _+_, _-_, _*_, _%_, _≤_, _<_}
+use Prim.Native.Nat.{ℕ, zero, suc, _+_, _-_, _*_, _%_, _≤_, _<_}
 use mathlib.Core.Path.{_≡_, refl, ap, _∙_}
 use mathlib.Core.List.{List}
-use mathlib.Core.Bool.{Bool, true, false, cond}
 use native.Mathlib.Omega.{arith}
 use lib.ListN.{length, getD}
-use lib.Dec.{eqb}
-use borrow.Author.Tests.{lt-ltb, le-ltb, eqb-true, eqb-false}
 use Rattle.job.specs.Grid.{Grid, vertices}
 use Rattle.job.specs.Structs.{gridOf}
 use Rattle.job.specs.declared.groups.Box.{Box}
@@ -18,7 +15,7 @@ use Rattle.paths.specs.Systems.{to}
 use Rattle.paths.specs.Distances.{Cost, fin, inf, plus}
 use Rattle.rules.specs.Tracks.{layerOf, rowOf, columnOf}
 use Rattle.rules.specs.Views.{View}
-use Rattle.rules.specs.Segments.{Place}
+use Rattle.rules.specs.Segments.{kindOf, Place}
 use Rattle.rules.specs.Prices.{Tech, lineOf, base, guideAt, shortAt, sumCost, entering}
 use Rattle.rules.specs.Steps.{step, priced}
 use Rattle.rules.specs.Places.{GoodPlace}
@@ -29,7 +26,7 @@ use Rattle.rules.proofs.Neighbours.{entered-below}
 use Rattle.rules.proofs.Segments.{move-led}
 use Rattle.rules.proofs.Moves.{step-parts}
 use Rattle.rules.proofs.Held.{line-held}
-use Rattle.tables.proofs.Tables.{Filled}
+use Rattle.rules.proofs.Lists.{Filled}
 use Rattle.bounds.specs.Bounds.{boundAt, SmallBounds, Bounding}
 use Rattle.bounds.specs.Fills.{Among, unjoinedBox, cheapestOf, leaves, axisFilled, filled}
 use Rattle.bounds.proofs.Coordinates.{Changed, column, row, layer, changed, small-sum}
@@ -51,28 +48,34 @@ entering-least t view v w m e = plus-least (base t v w m) (sumCost (guideAt t vi
 module _ {t : TechStruct} (tech : TechFits t) {v w : ℕ} (on : v < vertices (gridOf (t .grid))) (into : w < vertices (gridOf (t .grid))) where
   -- a step costs at least the cheapest wire
   wire-least : (m : ℕ) → m < 2 → cheapestOf (t .layers .wire) (t .grid .layers) ≤ base (techBy t) v w m
-  unfolding base lineAt
-  wire-least m few =
-      let held = ap (λ (l : LayerStruct). l .wire) (line-held tech into) in
-      rw (lt-ltb m 2 few) (omega (arith, held, cheapest-of (t .layers .wire) _ _ (vertex-below (gridOf (t .grid)) into .layer)))
+  unfolding base kindOf lineAt
+  wire-least m few = by m few
+    where
+      least : cheapestOf (t .layers .wire) (t .grid .layers) ≤ lineOf (techBy t) w .wire
+      least =
+          let held = ap (λ (l : LayerStruct). l .wire) (line-held tech into) in
+          omega (arith, held, cheapest-of (t .layers .wire) _ _ (vertex-below (gridOf (t .grid)) into .layer))
+
+      by : (m : ℕ) → m < 2 → cheapestOf (t .layers .wire) (t .grid .layers) ≤ base (techBy t) v w m
+      by zero few = least
+      by (suc zero) few = least
+      by (suc (suc m)) few = absurd (omega (arith, few))
 
   -- a via costs at least the cheapest via: the lower of its layers is not the top one
   via-least : (m : ℕ) → 2 ≤ m → m < 4 → layerOf (gridOf (t .grid)) w + 1 ≡ layerOf (gridOf (t .grid)) v + 2 * (m % 2)
       → cheapestOf (t .layers .via) (t .grid .layers - 1) ≤ base (techBy t) v w m
-  unfolding base lineAt
-  via-least m some few next = rw (le-ltb m 2 some) (by (eqb m 2) refl)
-    where
-      by : (b : Bool) → eqb m 2 ≡ b → cheapestOf (t .layers .via) (t .grid .layers - 1) ≤ cond b (lineOf (techBy t) w .via) (lineOf (techBy t) v .via)
-      by true e =
-          let down = eqb-true m 2 e in
-          let held = ap (λ (l : LayerStruct). l .via) (line-held tech into) in
-          let lowest = cheapest-of (t .layers .via) (t .grid .layers - 1) (layerOf (gridOf (t .grid)) w) in
-          omega (arith, held, lowest (omega (arith, down, next, vertex-below (gridOf (t .grid)) on .layer)))
-      by false e =
-          let up : m ≡ 3 = omega (arith, eqb-false m 2 e, some, few) in
-          let held = ap (λ (l : LayerStruct). l .via) (line-held tech on) in
-          let lowest = cheapest-of (t .layers .via) (t .grid .layers - 1) (layerOf (gridOf (t .grid)) v) in
-          omega (arith, held, lowest (omega (arith, up, next, vertex-below (gridOf (t .grid)) into .layer)))
+  unfolding base kindOf lineAt
+  via-least zero some few next = absurd (omega (arith, some))
+  via-least (suc zero) some few next = absurd (omega (arith, some))
+  via-least (suc (suc zero)) some few next =
+      let held = ap (λ (l : LayerStruct). l .via) (line-held tech into) in
+      let lowest = cheapest-of (t .layers .via) (t .grid .layers - 1) (layerOf (gridOf (t .grid)) w) in
+      omega (arith, held, lowest (omega (arith, next, vertex-below (gridOf (t .grid)) on .layer)))
+  via-least (suc (suc (suc m))) some few next =
+      let up : m ≡ 0 = omega (arith, few) in
+      let held = ap (λ (l : LayerStruct). l .via) (line-held tech on) in
+      let lowest = cheapest-of (t .layers .via) (t .grid .layers - 1) (layerOf (gridOf (t .grid)) v) in
+      omega (arith, held, lowest (omega (arith, up, next, vertex-below (gridOf (t .grid)) into .layer)))
 
 -- ---- the table
 
@@ -127,9 +130,9 @@ module _ {t : TechStruct} (tech : TechFits t) (spots pins : List ℕ) (count : �
       let c = layer-axis .kept (258 + columnOf g v) (omega (arith, b .column, tech .sized .small .columns)) ∙ column-axis .done (columnOf g v) (b .column) in
       rw (r, c, layer-axis .done (layerOf g v) (b .layer)) refl
 
-  -- no move lowers it by more than 7 times its price
+  -- no move lowers it by more than 15 times its price
   told-nearer : {v w m c : ℕ} → v < vertices g → w < vertices g → Changed g m v w → (m < 2 → wire ≤ c)
-      → (2 ≤ m → m < 4 → layerOf g w + 1 ≡ layerOf g v + 2 * (m % 2) → via ≤ c) → boundAt g bounds v ≤ 7 * c + boundAt g bounds w
+      → (2 ≤ m → m < 4 → layerOf g w + 1 ≡ layerOf g v + 2 * (m % 2) → via ≤ c) → boundAt g bounds v ≤ 15 * c + boundAt g bounds w
   told-nearer {v} {w} {m} {c} on into (column few on-column same-layer same-row next) wires vias =
       let r = ap (leaves (box .rows) wire) same-row in
       let l = ap (leaves (box .layers) via) same-layer in
@@ -167,10 +170,10 @@ module _ {t : TechStruct} (tech : TechFits t) (spots pins : List ℕ) (count : �
           omega (arith, bound-told v on, leaves-none _ wire _ (in-box .row), leaves-none _ wire _ (in-box .column), leaves-none _ via _ (in-box .layer))
 
       nearer : (view : View) {p q : Place} (m : ℕ) {c : ℕ} → GoodPlace (techBy t) p → priced (step (techBy t) view p m) ≡ to c q
-          → boundAt g bounds (p .vertex) ≤ 7 * c + boundAt g bounds (q .vertex)
+          → boundAt g bounds (p .vertex) ≤ 15 * c + boundAt g bounds (q .vertex)
       nearer view {p} {q} m {c} good e =
           let went = step-parts (techBy t) view p m e in
-          let led = move-led view p m (went .vertex) (went .enter) (tech .good) (good .vertex) (went .does) in
+          let led = move-led view p (kindOf m) (went .vertex) (went .enter) (tech .good) (good .vertex) (went .does) in
           let least = entering-least (techBy t) view (p .vertex) (went .vertex) m (went .pays) in
           let into = entered-below g m (good .vertex) (went .enters) in
           rw (led .vertex)

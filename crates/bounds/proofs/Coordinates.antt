@@ -141,7 +141,7 @@ module _ (g : Grid) (bounds : List ℕ) (m : ℕ) {v w : ℕ} {from : VertexStru
           bound-by (omega (arith, isRow, same-row)) (omega (arith, isColumn, same-column)) (omega (arith, isLayer, next))
 
 -- what is left is small
-pub small-sum : (g : Grid) (bounds : List ℕ) → SmallBounds bounds → (v : ℕ) → boundAt g bounds v ≤ 2 ^ 23
+pub small-sum : (g : Grid) (bounds : List ℕ) → SmallBounds bounds → (v : ℕ) → boundAt g bounds v ≤ 2 ^ 24
 unfolding boundAt SmallBounds
 small-sum g bounds small v = omega (arith, small (1 + rowOf g v), small (258 + columnOf g v), small (516 + layerOf g v))
 
@@ -153,6 +153,6 @@ bare-small n k = by (decLt k n)
     past : (k < n → ⊥) → length {A = ℕ} (replicate n 0) ≤ k
     past beyond = omega (arith, length-replicate {A = ℕ} n 0)
 
-    by : Dec (k < n) → getD (replicate n 0) k 0 ≤ 2 ^ 21
+    by : Dec (k < n) → getD (replicate n 0) k 0 ≤ 2 ^ 22
     by (yes below) = omega (arith, getD-replicate {A = ℕ} n k 0 0 below)
     by (no beyond) = omega (arith, List·getD-eq-default {A = ℕ} (replicate n 0) 0 (past beyond))

@@ -1,4 +1,4 @@
--- A lower bound on what is left from a vertex to the nearest unjoined pin, times 7, as the code holds it: an entry for each row, column and layer.
+-- A lower bound on what is left from a vertex to the nearest unjoined pin, times 15, as the code holds it: an entry for each row, column and layer.
 --     boundOf, boundAt     what is left at least, by coordinates and by the vertex's number
 --     SmallBounds          so small that the code's sums fit
 --     Bounding             it is such a bound
@@ -20,16 +20,16 @@ use Rattle.rules.specs.Places.{GoodPlace}
 abbrev pub boundOf : (bounds : List ℕ) → Vertex → ℕ
 boundOf bounds x = getD bounds (1 + x .row) 0 + (getD bounds (258 + x .column) 0 + getD bounds (516 + x .layer) 0)
 
--- what is left at least from the vertex with a number, times 7
+-- what is left at least from the vertex with a number, times 15
 unfoldable pub boundAt : Grid → (bounds : List ℕ) → (v : ℕ) → ℕ
 boundAt g bounds v = boundOf bounds (vertexBy g v)
 
 unfoldable pub SmallBounds : (bounds : List ℕ) → Type 0
-SmallBounds bounds = (k : ℕ) → getD bounds k 0 ≤ 2 ^ 21
+SmallBounds bounds = (k : ℕ) → getD bounds k 0 ≤ 2 ^ 22
 
--- nothing is left at an unjoined pin, no move lowers what is left by more than 7 times its price, and all of it is small
+-- nothing is left at an unjoined pin, no move lowers what is left by more than 15 times its price, and all of it is small
 pub record Bounding (t : Tech) (spots bounds : List ℕ) : Type 0 where
   pub none : (v : ℕ) → v < vertices (t .grid) → getD spots v 0 ≡ 2 → boundAt (t .grid) bounds v ≡ 0
   pub nearer : (view : View) {p q : Place} (m : ℕ) {c : ℕ} → GoodPlace t p → priced (step t view p m) ≡ to c q
-      → boundAt (t .grid) bounds (p .vertex) ≤ 7 * c + boundAt (t .grid) bounds (q .vertex)
-  pub small : (v : ℕ) → boundAt (t .grid) bounds v ≤ 2 ^ 23
+      → boundAt (t .grid) bounds (p .vertex) ≤ 15 * c + boundAt (t .grid) bounds (q .vertex)
+  pub small : (v : ℕ) → boundAt (t .grid) bounds v ≤ 2 ^ 24

@@ -58,9 +58,9 @@ cheapestOf prices (suc n) = min (cheapestOf prices n) (getD prices n 0)
 
 -- ---- the table
 
--- 7 times the price of the steps to the span
+-- 15 times the price of the steps to the span
 unfoldable pub leaves : Span → (price at : ℕ) → ℕ
-leaves span price at = 7 * (price * (span .low - at + (at - span .high)))
+leaves span price at = 15 * (price * (span .low - at + (at - span .high)))
 
 -- a table with the entries of the first so many coordinates, from a place on
 unfoldable pub axisFilled : Span → (price first count : ℕ) → (before : List ℕ) → List ℕ

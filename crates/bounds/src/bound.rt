@@ -1,4 +1,4 @@
-// What is left at least from a vertex, times 7: an entry for each row from 1 on, for each column from 258 on, for each layer from 516 on.
+// What is left at least from a vertex, times 15: an entry for each row from 1 on, for each column from 258 on, for each layer from 516 on.
 ghost use mathlib.Core.Path.{_≡_};
 ghost use Prim.Native.Nat.{ℕ, _+_, _<_};
 ghost use lib.ListN.{getD};

@@ -91,12 +91,12 @@ fn cheapest(prices: [usize; 8], count: usize) -> usize
     price
 }
 
-// What a coordinate leaves: the steps to the span at a price, times 7, so that a search that counts each cost 8 times still pays 1 for each move.
+// What a coordinate leaves: the steps to the span at a price, times 15, so that a search that counts each cost 16 times still pays 1 for each move.
 fn left_at(span: Span, price: usize, at: usize) -> u64
     requires { ⌜ (span .low ≤ 255) × (price < 1024) × (at < 256) ⌝ }
     ensures { λ r. ⌜ r ≡ leaves span price at ⌝ }
 {
-    (7 * (price * (above(span.low, at) + above(at, span.high)))) as u64
+    (15 * (price * (above(span.low, at) + above(at, span.high)))) as u64
 }
 
 // The entries of all rows, columns or layers.

@@ -9,7 +9,7 @@ use mathlib.Core.List.{List}
 use native.Mathlib.Omega.{arith}
 use native.Mathlib.Decide.{ℕ-discrete}
 use lib.ListN.{length, getD}
-use Rattle.heap.specs.Heaps.{keyOf, slotOf, wordOf, In, itemAt, keyAt, Seated}
+use Rattle.heap.specs.Heaps.{greatestKey, keyOf, slotOf, wordOf, In, itemAt, keyAt, Seated}
 use Rattle.heap.specs.Sifts.{placed}
 use Rattle.heap.proofs.Words.{key-word, slot-word, placed-long, placed-item, placed-agree, placed-word, placed-other}
 
@@ -20,7 +20,7 @@ pub record Around (n size at item : ℕ) (work : List ℕ) : Type 0 where
   pub fits : size ≤ n
   pub on : at < size
   pub known : item < n
-  pub small : (c : ℕ) → c < n → keyOf (getD work c 0) ≤ 1099511627776
+  pub small : (c : ℕ) → c < n → keyOf (getD work c 0) ≤ greatestKey
   pub items : (i : ℕ) → i < size → (i ≡ at → ⊥) → itemAt work n i < n
   pub others : (i : ℕ) → i < size → (i ≡ at → ⊥) → itemAt work n i ≡ item → ⊥
   pub touched : (i : ℕ) → i < size → (i ≡ at → ⊥) → 0 < keyAt work n i
@@ -76,7 +76,7 @@ module _ {n size at item : ℕ} (work : List ℕ) (key : ℕ) (a : Around n size
   around-key i h e = ap keyOf (around-entry i h e)
 
   -- all places are seated
-  pub around-seated : 0 < key → key ≤ 1099511627776 → Seated n size (placed work n at item key)
+  pub around-seated : 0 < key → key ≤ greatestKey → Seated n size (placed work n at item key)
   around-seated p small =
       record {
         room = omega (arith, a .room, placed-long work n at item key);
@@ -91,7 +91,7 @@ module _ {n size at item : ℕ} (work : List ℕ) (key : ℕ) (a : Around n size
         seats = λ c h o. seat c h o (ℕ-discrete c item) .1;
       }
     where
-      keys : (c : ℕ) → c < n → Dec (c ≡ item) → keyOf (getD (placed work n at item key) c 0) ≤ 1099511627776
+      keys : (c : ℕ) → c < n → Dec (c ≡ item) → keyOf (getD (placed work n at item key) c 0) ≤ greatestKey
       keys c h (yes e) = rw (e, around-item-key) small
       keys c h (no e) = rw (around-word-other c h e) (a .small c h)
 

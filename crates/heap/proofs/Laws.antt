@@ -1,8 +1,8 @@
 -- What callers lean on.
 --     heaped-none                   where no entry was touched there is an empty heap
 --     heaped-as, heaped-store       what is past the heap does not matter, so that the caller may store there
---     heaped-least, taken-key       the item at the front has the least key, and the one that is taken has that key
---     lowered-left, taken-left      no item gets into the heap but the one that is put in
+--     heaped-least, removed-key       the item at the front has the least key, and the one that is taken has that key
+--     lowered-left, removed-left      no item gets into the heap but the one that is put in
 --     room-both, room-beside        different items that are not in the heap have room beside it, and so has one more
 use Prim.Native.Nat.{ℕ, _+_, _-_, _≤_, _<_}
 use mathlib.Core.Path.{_≡_, sym, ap, _∙_}
@@ -14,7 +14,7 @@ use lib.ListN.{length, getD, set, length-set}
 use lib.Dec.{ltb}
 use lib.Seq.{getD-set-other}
 use borrow.Author.Tests.{lt-ltb, le-ltb}
-use Rattle.heap.specs.Heaps.{keyOf, slotOf, Open, In, itemAt, keyAt, above, Seated, Heaped, Lowered, Taken}
+use Rattle.heap.specs.Heaps.{keyOf, slotOf, Open, In, itemAt, keyAt, above, Seated, Heaped, Lowered, Removed}
 use Rattle.heap.proofs.Words.{open-or-not}
 use Rattle.heap.proofs.Orders.{least-first}
 use Rattle.heap.proofs.Swaps.{seat-once, seat-in}
@@ -89,9 +89,9 @@ heaped-least {n} {size} {work} h c l o =
     rw (ap (λ x. keyOf (getD work x 0)) (h .seated .seats c l o)) at (least-first (h .order) (slotOf (getD work c 0)) (h .seated .within c l o))
 
 -- and so has the one that is taken
-pub taken-key : {n size item : ℕ} {found work : List ℕ} → Taken n size item found work → Heaped n size found → 0 < size
+pub removed-key : {n size item : ℕ} {found work : List ℕ} → Removed n size item found work → Heaped n size found → 0 < size
     → keyAt found n 0 ≡ keyOf (getD found item 0)
-taken-key {n} {size} {item} {found} {work} t h some =
+removed-key {n} {size} {item} {found} {work} t h some =
     omega (arith, heaped-least h item (t .known) (t .was), t .least (itemAt found n 0) (h .seated .items 0 some) (seat-in (h .seated) some))
 
 -- ---- no other item gets in
@@ -108,8 +108,8 @@ pub lowered-left : {n size item distance : ℕ} {found work : List ℕ} {now : �
     → (c : ℕ) → c < n → (c ≡ item → ⊥) → In work n c → In found n c
 lowered-left l c h e o = left-by (l .still c h e) o
 
-pub taken-left : {n size item : ℕ} {found work : List ℕ} → Taken n size item found work → (c : ℕ) → c < n → In work n c → In found n c
-taken-left t c h o = left-by (t .still c h) o
+pub removed-left : {n size item : ℕ} {found work : List ℕ} → Removed n size item found work → (c : ℕ) → c < n → In work n c → In found n c
+removed-left t c h o = left-by (t .still c h) o
 
 -- ---- room beside the heap
 

@@ -9,7 +9,7 @@ use mathlib.Core.List.{List}
 use native.Mathlib.Omega.{arith}
 use native.Mathlib.Decide.{ℕ-discrete}
 use lib.ListN.{getD}
-use Rattle.heap.specs.Heaps.{keyOf, slotOf, In, itemAt, keyAt, above, Seated, Heaped, Lowered}
+use Rattle.heap.specs.Heaps.{greatestKey, keyOf, slotOf, In, itemAt, keyAt, above, Seated, Heaped, Lowered}
 use Rattle.heap.specs.Sifts.{placed, Sifted, Rising, Lifted}
 use Rattle.heap.proofs.Words.{placed-long, placed-other}
 use Rattle.heap.proofs.Swaps.{seat-once, seat-in}
@@ -82,7 +82,7 @@ module _ {n size item : ℕ} (distance : ℕ) {w : List ℕ} (h : Heaped n size 
       }
 
   -- and may rise from there
-  pub new-lifted : distance < 1099511627776 → Lifted n (size + 1) size item (distance + 1) w
+  pub new-lifted : distance < greatestKey → Lifted n (size + 1) size item (distance + 1) w
   new-lifted small =
       record {
         known = known;

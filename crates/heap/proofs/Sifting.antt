@@ -10,7 +10,7 @@ use mathlib.Core.Bool.{Bool, true, false}
 use mathlib.Core.List.{List}
 use native.Mathlib.Omega.{arith}
 use lib.ListN.{length, getD}
-use Rattle.heap.specs.Heaps.{keyOf, slotOf, itemAt, keyAt, above, Seated}
+use Rattle.heap.specs.Heaps.{mostItems, greatestKey, keyOf, slotOf, itemAt, keyAt, above, Seated}
 use Rattle.heap.specs.Sifts.{placed, Moved, Sifted, Rising, Sinking, Lifted, Dropped, Held, Climbs, Least, Sinks}
 use Rattle.heap.proofs.Words.{key-word, placed-long, placed-item, placed-agree, placed-word, placed-other}
 use Rattle.heap.proofs.Orders.{rising-on, rising-done, sinking-on, sinking-done}
@@ -18,10 +18,10 @@ use Rattle.heap.proofs.Swaps.{seat-once, Swapped, swapped-keys, swapped
 
 -- what a store asks, and a move
 abbrev pub PutAsked : (n at item key : ℕ) → (work : List ℕ) → Type 0
-PutAsked n at item key work = (n ≤ 524288) × (n + n ≤ length work) × (at < n) × (item < n) × (key ≤ 1099511627776)
+PutAsked n at item key work = (n ≤ mostItems) × (n + n ≤ length work) × (at < n) × (item < n) × (key ≤ greatestKey)
 
 abbrev pub ShiftAsked : (n from to : ℕ) → (work : List ℕ) → Type 0
-ShiftAsked n from to work = (n ≤ 524288) × (n + n ≤ length work) × (from < n) × (to < n) × (itemAt work n from < n) × (keyAt work n from ≤ 1099511627776)
+ShiftAsked n from to work = (n ≤ mostItems) × (n + n ≤ length work) × (from < n) × (to < n) × (itemAt work n from < n) × (keyAt work n from ≤ greatestKey)
     × (keyOf (getD work (n + from) 0) ≡ keyAt work n from)
 
 module _ {n size : ℕ} (work : List ℕ) (at item key : ℕ) (s : Seated n size (placed work n at item key)) (on : at < size) (known : item < n) where

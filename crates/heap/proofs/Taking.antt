@@ -2,10 +2,10 @@
 --     settled, marked, filled     that slice, and with the last item put in its place
 --     cleared                     the slice that is left, with the word of the last place cleared
 --     front-..                    the item at the front is marked, and of the rest nothing changes
---     Out, taken-by               the item is out of the heap, and the others find their places
+--     Out, removed-by               the item is out of the heap, and the others find their places
 --     one-..                      there was one item
 --     many-..                     there were more: the last goes to the front and may sink from there
---     settle-asked, last-asked, drop-asked, drop-taken, one-done, clear-asked     what the code asks and does, in its words
+--     settle-asked, last-asked, drop-asked, drop-removed, one-done, clear-asked     what the code asks and does, in its words
 use Prim.Native.Nat.{ℕ, _+_, _-_, _≤_, _<_}
 use mathlib.Core.Path.{_≡_, sym, ap, _∙_}
 use mathlib.Core.List.{List}
@@ -14,7 +14,7 @@ use native.Mathlib.Omega.{arith}
 use native.Mathlib.Decide.{ℕ-discrete}
 use lib.ListN.{length, getD, set, length-set}
 use lib.Seq.{getD-set-same, getD-set-other}
-use Rattle.heap.specs.Heaps.{keyOf, slotOf, wordOf, In, itemAt, keyAt, above, Heaped, Taken}
+use Rattle.heap.specs.Heaps.{greatestKey, keyOf, slotOf, wordOf, In, itemAt, keyAt, above, Heaped, Removed}
 use Rattle.heap.specs.Sifts.{placed, Sifted, Dropped}
 use Rattle.heap.proofs.Words.{key-word, slot-word, placed-long, placed-other}
 use Rattle.heap.proofs.Swaps.{seat-once, seat-in}
@@ -114,9 +114,9 @@ record Out (n size item : ℕ) (w left : List ℕ) : Type 0 where
   pub beyond : (j : ℕ) → n + (size - 1) ≤ j → getD left j 0 ≡ getD w j 0
 
 -- the others find their places, and the word past them is cleared
-taken-by : {n size : ℕ} {w left work : List ℕ} → Heaped n size w → 0 < size → Out n size (firstOf n w) w left → Sifted n (size - 1) left work
-    → Taken n size (firstOf n w) w (cleared n size work)
-taken-by {n} {size} {w} {left} {work} h some o s =
+removed-by : {n size : ℕ} {w left work : List ℕ} → Heaped n size w → 0 < size → Out n size (firstOf n w) w left → Sifted n (size - 1) left work
+    → Removed n size (firstOf n w) w (cleared n size work)
+removed-by {n} {size} {w} {left} {work} h some o s =
     record {
       heaped = heaped-store (n + (size - 1)) 0 (le-refl (n + (size - 1))) (s .heaped);
       long = length-set work (n + (size - 1)) 0 ∙ long;
@@ -186,8 +186,8 @@ module _ {n size : ℕ} {w : List ℕ} (h : Heaped n size w) (some : 0 < size) (
         beyond = λ j l. front-other h some j (omega (arith, front-known h some));
       }
 
-  pub one-taken : Taken n size (firstOf n w) w (cleared n size (marked n w))
-  one-taken = taken-by h some one-out one-sifted
+  pub one-removed : Removed n size (firstOf n w) w (cleared n size (marked n w))
+  one-removed = removed-by h some one-out one-sifted
 
 -- ---- more than one
 
@@ -296,9 +296,9 @@ module _ {n size : ℕ} {w : List ℕ} (h : Heaped n size w) (more : 1 < size) w
       stays c l e o (yes x) = rw x (around-in (marked n w) (keyAt w n (size - 1)) many-around (h .seated .touched (size - 1) (omega arith)))
       stays c l e o (no x) = rw (other c l x ∙ front-other h some c e) o
 
-  pub many-taken : {work : List ℕ} → Sifted n (size - 1) (filled n size w) work
-      → Taken n size (firstOf n w) w (cleared n size work)
-  many-taken s = taken-by h some many-out s
+  pub many-removed : {work : List ℕ} → Sifted n (size - 1) (filled n size w) work
+      → Removed n size (firstOf n w) w (cleared n size work)
+  many-removed s = removed-by h some many-out s
 
 -- ---- as the code has it
 
@@ -316,19 +316,19 @@ module _ {n size item last key : ℕ} {w v : List ℕ} (h : Heaped n size w) (mo
   drop-asked = rw (last-is, key-was, slice-is) (many-dropped h more)
 
   -- what is then done
-  pub drop-taken : {work : List ℕ} → Sifted n (size - 1) (placed v n 0 last key) work → Taken n size item w (cleared n size work)
-  drop-taken {work} s =
+  pub drop-removed : {work : List ℕ} → Sifted n (size - 1) (placed v n 0 last key) work → Removed n size item w (cleared n size work)
+  drop-removed {work} s =
       let told : Sifted n (size - 1) (filled n size w) work = rw (last-is, key-was, slice-is) at s in
-      rw first-is (many-taken h more told)
+      rw first-is (many-removed h more told)
 
 -- what is done with one item
 pub one-done : {n size item : ℕ} {w v : List ℕ} → Heaped n size w → 0 < size → size ≤ 1 → item ≡ firstOf n w → v ≡ settled w item
-    → Taken n size item w (cleared n size v)
-one-done {n} {size} {item} {w} {v} h some one first-is v-is = rw (v-is, first-is) (one-taken h some one)
+    → Removed n size item w (cleared n size v)
+one-done {n} {size} {item} {w} {v} h some one first-is v-is = rw (v-is, first-is) (one-removed h some one)
 
 -- what marking asks
 pub settle-asked : {n size item : ℕ} {w : List ℕ} → Heaped n size w → 0 < size → item ≡ firstOf n w
-    → (item < length w) × (keyOf (getD w item 0) ≤ 1099511627776)
+    → (item < length w) × (keyOf (getD w item 0) ≤ greatestKey)
 settle-asked {n} {size} {item} {w} h some is =
     rw is (omega (arith, front-known h some, h .seated .room), h .seated .small (firstOf n w) (front-known h some))
 
@@ -338,6 +338,6 @@ last-asked {n} {size} {last} item {w} {v} h more is v-is =
     rw (is, v-is, length-set w item (wordOf (keyOf (getD w item 0)) 1048575)) (omega (arith, last-known h more, h .seated .room))
 
 -- what clearing the last place asks
-pub clear-asked : {n size item : ℕ} {w : List ℕ} (work : List ℕ) → Heaped n size w → 0 < size → Taken n size item w (cleared n size work) → n + (size - 1) < length work
+pub clear-asked : {n size item : ℕ} {w : List ℕ} (work : List ℕ) → Heaped n size w → 0 < size → Removed n size item w (cleared n size work) → n + (size - 1) < length work
 clear-asked {n} {size} {item} {w} work h some t =
     omega (arith, t .long, length-set work (n + (size - 1)) 0, h .seated .room, h .seated .fits)

@@ -10,7 +10,7 @@
 --     Seated                    each item of the heap knows its place
 --     Heaped                    and none has a lesser key than the one above it
 --     Lowered                   what `lower` does
---     Taken                     what `take_least` does
+--     Removed                     what `remove_least` does
 use Prim.Native.Nat.{ℕ, _+_, _-_, _*_, _/_, _%_, _≤_, _<_}
 use mathlib.Core.Path.{_≡_}
 use mathlib.Core.List.{List}
@@ -32,7 +32,7 @@ mostItems = 524288
 
 -- with the slots below it, it fits a word
 abbrev pub greatestKey : ℕ
-greatestKey = 1099511627776
+greatestKey = 2199023255552
 
 -- the key of an entry
 unfoldable pub keyOf : (word : ℕ) → ℕ
@@ -106,7 +106,7 @@ pub record Lowered (n size item distance : ℕ) (found work : List ℕ) (now : �
 
 -- An item of the heap with the least key is taken out. Every item keeps its key, and the others are in the heap as before. The word of the
 -- place that is no longer in the heap is left zero.
-pub record Taken (n size item : ℕ) (found work : List ℕ) : Type 0 where
+pub record Removed (n size item : ℕ) (found work : List ℕ) : Type 0 where
   pub heaped : Heaped n (size - 1) work
   pub long : length work ≡ length found
   pub known : item < n

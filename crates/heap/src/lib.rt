@@ -1,7 +1,7 @@
 // A heap of numbered items by their distances, in a slice that the caller lends. An item knows its place, so that its distance can be lowered
 // where it stands. The layout and what each function does are in specs/Heaps.antt.
 ghost use Prim.Native.Nat.{_<_};
-ghost use Rattle.heap.specs.Heaps.{greatestKey, Heaped, Lowered, Taken};
+ghost use Rattle.heap.specs.Heaps.{greatestKey, Heaped, Lowered, Removed};
 
 pub mod cells;
 mod sift;
@@ -36,9 +36,9 @@ pub fn lower(work: &mut [u64], n: usize, size: usize, item: usize, distance: u64
 }
 
 // Takes out an item with the least distance, and answers it. Its entry keeps its distance, and the last place's word becomes zero.
-pub fn take_least(work: &mut [u64], n: usize, size: usize) -> usize
+pub fn remove_least(work: &mut [u64], n: usize, size: usize) -> usize
     requires { ⌜ (Heaped n size (now work)) × (0 < size) ⌝ }
-    ensures { λ r. ⌜ Taken n size r (now (work .entry)) (now (work .exit)) ⌝ }
+    ensures { λ r. ⌜ Removed n size r (now (work .entry)) (now (work .exit)) ⌝ }
 {
     let item = item_at(work, n, 0);
     let rest = size - 1;

@@ -16,8 +16,8 @@ use borrow.Author.Tests.{leb-true, not-true, not-false}
 use lib.Dec.{T, leb, leb→le}
 use lib.ListN.{length}
 use Rattle.bits.specs.Bits.{bitsOf, whole}
-use Rattle.bits.specs.Cursors.{Room, taken}
-use Rattle.bits.specs.declared.Taken.{Taken}
+use Rattle.bits.specs.Cursors.{Room, fieldRead}
+use Rattle.bits.specs.declared.FieldRead.{FieldRead}
 use Rattle.bits.proofs.Laws.{length-bitsOf, bitsOf-bits, field-below}
 
 -- w bits are tested
@@ -51,11 +51,11 @@ unfolding whole
 all-left {bytes} {at} n e below = record { inside = omega (arith, leb-true (at + n) _ e, length-bitsOf bytes); below = below }
 
 -- what is left past a field
-pub past : {bytes : List ℕ} {at n : ℕ} {t : Taken} (w : ℕ)
-    → T (leb w n) → t ≡ taken bytes at w → Left bytes at n → Left bytes (t .next .at) (n - w)
+pub past : {bytes : List ℕ} {at n : ℕ} {t : FieldRead} (w : ℕ)
+    → T (leb w n) → t ≡ fieldRead bytes at w → Left bytes at n → Left bytes (t .next .at) (n - w)
 past {n = n} w h e l =
     let narrow : w ≤ n = leb→le w n h in
-    let next = ap (λ (t : Taken). t .next .at) e in
+    let next = ap (λ (t : FieldRead). t .next .at) e in
     record { inside = omega arith; below = omega arith }
 
 -- the next field, if it is not wider than what is left, nor than a word
@@ -68,5 +68,5 @@ room {w = w} {n = n} h l =
     }
 
 -- the number in a field of w bits is below 2 ^ w
-pub value-below : (bytes : List ℕ) (at w : ℕ) {t : Taken} → t ≡ taken bytes at w → t .value < 2 ^ w
+pub value-below : (bytes : List ℕ) (at w : ℕ) {t : FieldRead} → t ≡ fieldRead bytes at w → t .value < 2 ^ w
 value-below bytes at w e = rw e (field-below (bitsOf bytes) at w (bitsOf-bits bytes))

@@ -14,9 +14,9 @@ use Rattle.job.specs.Reading.{readAfterHead, readBits, readJob}
 use Rattle.job.specs.Packing.{groupBits, concatBits}
 use Rattle.paths.specs.Distances.{isCost, onward, keeps, lowestFrom, lowestKeeping, moveOn, follow}
 use Rattle.paths.specs.Starts.{orNext, best, startCost}
-use Rattle.rules.specs.Tracks.{layerOf, rowOf, columnOf, trackPlace, trackLength, ifThere, entered}
+use Rattle.rules.specs.Tracks.{layerOf, rowOf, columnOf, trackIndex, trackLength, ifThere, entered}
 use Rattle.rules.specs.Views.{member, othersHold, between, inBox, inGuide, pinsOf, boxesOf, viewOf}
-use Rattle.rules.specs.Segments.{ofLength, alongOnly, grow}
+use Rattle.rules.specs.Segments.{kindOf, against, ofLength, notAgainst, grow}
 use Rattle.rules.specs.Prices.{techOf, lineOf, charge, penalty, base, guideAt, shortAt, sumCost, entering}
 use Rattle.rules.specs.Overheads.{clear, toward, onFrom, clearRun, otherwise, lengthenedBy, overheadOf}
 use Rattle.rules.specs.Steps.{leaving, stepping, bySegment, ifPriced, into, step, priced}
@@ -57,8 +57,8 @@ unfolding All rows rowA rowB rowC rowD rowE rowF rowG rowH rowI rowJ rowK rowL
     viaBelow plainLines plainJob pin
     any all vertices vertexNumber same stepsColumn covered onObstacle largestMinLength strideOf
     isCost onward keeps lowestFrom lowestKeeping moveOn follow orNext best startCost
-    layerOf rowOf columnOf trackPlace trackLength ifThere entered member othersHold between inBox inGuide pinsOf boxesOf viewOf
-    ofLength alongOnly grow techOf lineOf charge penalty base guideAt shortAt sumCost entering
+    layerOf rowOf columnOf trackIndex trackLength ifThere entered member othersHold between inBox inGuide pinsOf boxesOf viewOf
+    kindOf against ofLength notAgainst grow techOf lineOf charge penalty base guideAt shortAt sumCost entering
     clear toward onFrom clearRun otherwise lengthenedBy overheadOf leaving stepping bySegment ifPriced into step priced
     startAt nothingYet withMade after goOn walk metalAtFirst begun without more joinedBy places joinFrom joinBy segmentCode
     entryCost tableCost withinTest settledTest supportedTest movesTest placeTest allBelow allSegments certified

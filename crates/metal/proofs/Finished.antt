@@ -12,9 +12,9 @@ use native.Mathlib.Nat.{not-suc-le-zero, le-of-suc-le-suc, eq-or-lt-of-le, add-z
 use native.Mathlib.Omega.{arith}
 use lib.ListN.{length, getD, set, take, drop, take-append-drop}
 use lib.Seq.{length-take-le, getD-take, getD-set-same, getD-set-other, ext-getD}
-use lib.Dec.{T, eqb}
+use lib.Dec.{eqb}
 use Rattle.job.specs.Lists.{any}
-use Rattle.job.specs.Grid.{Grid, Vertex, vertices, inside, same}
+use Rattle.job.specs.Grid.{Grid, Vertex, vertices, same}
 use Rattle.job.specs.Job.{Job, Obstacle}
 use Rattle.job.specs.Reading.{onObstacle}
 use Rattle.job.proofs.Grids.{below-inside}
@@ -99,7 +99,8 @@ obstacle-mark g obstacles pins marks v says h =
     by false true = refl
     by false false = refl
 
--- codes of the metal, with the obstacles put in, are the map of the job, and past its need the slice is as found
+-- codes of the metal, with the obstacles put in, are the map of the job, and past its need the slice is as
+-- found
 pub map-finished : (j : Job) (metal : List (List ℕ)) {pins : List Vertex} (marks codes found : List ℕ) → Marks (j .grid) (j .obstacles) pins marks
     → vertices (j .grid) ≤ length found → Codes (j .grid) metal codes → Beyond (vertices (j .grid)) codes found
     → withObstacles marks (vertices (j .grid)) codes ≡ mapOf j metal ++ drop (vertices (j .grid)) found

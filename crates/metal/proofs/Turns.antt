@@ -1,23 +1,23 @@
 -- Turns of the loops that store into a slice.
---     Zeroing, zeroing-begun, -on, -done             making entries zero
---     Putting, putting-begun, -on, -past, -done      putting obstacles in
---     Running, running-begun, -on, -outside, -done   laying a run
---     Laying, laying-begun, -below, -on, -done       laying pins
-use Prim.Native.Nat.{ℕ, zero, suc, _+_, _-_, _≤_, _<_}
+--     Zeroing, zeroing-begun, -on, -done                  making entries zero
+--     Putting, putting-begun, -on, -past, -done           putting obstacles in
+--     Running, running-begun, -next, -on, -ended, -done   laying an extension
+--     Laying, laying-begun, -below, -on, -done            laying pins
+use Prim.Native.Nat.{ℕ, suc, _+_, _-_, _≤_, _<_}
 use mathlib.Core.Path.{_≡_, refl, sym, ap, _∙_}
-use mathlib.Core.List.{List, [], _∷_}
-use native.Mathlib.Nat.{not-suc-le-zero, le-of-suc-le-suc}
+use mathlib.Core.List.{List}
 use native.Mathlib.Numerals.{add-one}
 use native.Mathlib.Omega.{arith}
 use lib.ListN.{length, getD, set, take, drop, length-set, drop-of-length-le}
 use lib.Seq.{length-take-le, drop-cons, getD-take}
 use borrow.Author.Tests.{eq-eqb, ne-eqb}
 use Rattle.job.specs.Lists.{All}
-use Rattle.job.specs.Grid.{Grid, vertices}
-use Rattle.rules.specs.Tracks.{outside, at, entered}
+use Rattle.job.specs.Grid.{Grid, vertices, strideOf}
+use Rattle.rules.specs.Tracks.{layerOf, entered}
 use Rattle.rules.specs.Segments.{Direction}
 use Rattle.rules.specs.Overheads.{toward}
-use Rattle.rules.proofs.Neighbours.{entered-below}
+use Rattle.rules.specs.Structs.{nextOn}
+use Rattle.rules.proofs.Rooms.{roomToward, nextToward, Onward, onward, room-enters, room-ends}
 use Rattle.rules.proofs.Standing.{all-at}
 use Rattle.metal.specs.Codes.{laidCode, layAll, fromEntered, beyond, zeroed, withObstacles}
 use Rattle.metal.proofs.Slices.{zeroed-more}
@@ -92,49 +92,64 @@ module _ {marks : List ℕ} {count done : ℕ} {found held : List ℕ} (so-far :
   pub putting-done : count ≤ done → held ≡ withObstacles marks count found
   putting-done h = let all : count ≡ done = omega arith in rw all (so-far .put)
 
--- ---- laying a run
+-- ---- laying an extension
 
--- along a track: so many are left beyond the last vertex, and laying these gives all
-pub record Running (g : Grid) (net number count v : ℕ) (found : List ℕ) (last left : ℕ) (held : List ℕ) : Type 0 where
+-- along a track by its stride: so many are left beyond the last vertex, and laying these gives all
+pub record Running (g : Grid) (d : Direction) (net count v : ℕ) (found : List ℕ) (stride room last left : ℕ) (held : List ℕ) : Type 0 where
   pub onGrid : last < vertices g
-  pub room : vertices g ≤ length held
+  pub step : strideOf g (layerOf g last) ≡ stride
+  pub goes : room ≡ roomToward g d last
   pub size : length held ≡ length found
-  pub laid : (d : Direction) → number ≡ toward d → layAll net (beyond g d count v) found ≡ layAll net (beyond g d left last) held
+  pub laid : layAll net (beyond g d count v) found ≡ layAll net (beyond g d left last) held
 
-module _ {g : Grid} {net number count v : ℕ} {found : List ℕ} where
+module _ {g : Grid} {d : Direction} {net count v : ℕ} {found : List ℕ} {stride : ℕ} where
   -- all are left
-  pub running-begun : v < vertices g → vertices g ≤ length found → Running g net number count v found v count found
-  running-begun on room = record { onGrid = on; room = room; size = refl; laid = λ d e. refl }
+  pub running-begun : {room : ℕ} → v < vertices g → strideOf g (layerOf g v) ≡ stride → room ≡ roomToward g d v
+      → Running g d net count v found stride room v count found
+  running-begun on by goes = record { onGrid = on; step = by; goes = goes; size = refl; laid = refl }
 
-  module _ {last left : ℕ} {held : List ℕ} (so-far : Running g net number count v found last left held) where
+  module _ {room last left : ℕ} {held : List ℕ} (so-far : Running g d net count v found stride room last left held) where
     -- the first of those that are left, and the rest
-    rest-from : (d : Direction) → 0 < left → number ≡ toward d
-        → beyond g d left last ≡ fromEntered (beyond g d (left - 1)) (entered g last number)
+    rest-from : 0 < left → beyond g d left last ≡ fromEntered (beyond g d (left - 1)) (entered g last (toward d))
     unfolding beyond
-    rest-from d h e = let one : left ≡ suc (left - 1) = omega arith in rw e (ap (λ (k : ℕ). beyond g d k last) one)
+    rest-from h = let one : left ≡ suc (left - 1) = omega arith in ap (λ (k : ℕ). beyond g d k last) one
 
-    -- one more is laid
-    pub running-on : {w : ℕ} {after : List ℕ} → 0 < left → entered g last number ≡ at w → after ≡ set held w (laidCode net (getD held w 0))
-        → Running g net number count v found w (left - 1) after
-    unfolding fromEntered layAll
-    running-on {w} h e is =
-        let same : length (set held w (laidCode net (getD held w 0))) ≡ length held = length-set held w _ in
-        record {
-          onGrid = entered-below g number (so-far .onGrid) e;
-          room = rw (is, same) (so-far .room);
-          size = rw is (same ∙ so-far .size);
-          laid = λ d number-is. so-far .laid d number-is ∙ rw (rest-from d h number-is, e, is) refl;
-        }
+    module _ {w : ℕ} (some : room ≡ 0 → ⊥) (is : w ≡ nextOn stride d last) where
+      -- the track goes on
+      goes-on : 0 < roomToward g d last
+      goes-on = omega (arith, so-far .goes, some)
+
+      -- the next vertex by the stride of the track is the next of the last one's layer
+      same-next : nextToward g d last ≡ w
+      same-next = ap (λ (s : ℕ). nextOn s d last) (so-far .step) ∙ sym is
+
+      -- the next vertex is one step along the track
+      pub running-next : Onward g d last w
+      running-next = rw same-next at (onward g d (so-far .onGrid) goes-on)
+
+      -- one more is laid
+      pub running-on : {after : List ℕ} → 0 < left → after ≡ set held w (laidCode net (getD held w 0))
+          → Running g d net count v found stride (room - 1) w (left - 1) after
+      unfolding fromEntered layAll
+      running-on h laid-on =
+          let on = running-next in
+          record {
+            onGrid = on .onGrid;
+            step = ap (strideOf g) (on .layer) ∙ so-far .step;
+            goes = omega (arith, so-far .goes, on .room);
+            size = rw laid-on (length-set held w _ ∙ so-far .size);
+            laid = so-far .laid ∙ rw (rest-from h, room-enters g d last goes-on, same-next, laid-on) refl;
+          }
 
     -- the track ends
-    pub running-outside : (d : Direction) → 0 < left → number ≡ toward d → entered g last number ≡ outside → held ≡ layAll net (beyond g d count v) found
+    pub running-ended : 0 < left → room ≡ 0 → held ≡ layAll net (beyond g d count v) found
     unfolding fromEntered layAll
-    running-outside d h number-is e = sym (so-far .laid d number-is ∙ rw (rest-from d h number-is, e) refl)
+    running-ended h none = sym (so-far .laid ∙ rw (rest-from h, room-ends g d last (sym (so-far .goes) ∙ none)) refl)
 
     -- none is left
-    pub running-done : (d : Direction) → left ≤ 0 → number ≡ toward d → held ≡ layAll net (beyond g d count v) found
+    pub running-done : left ≤ 0 → held ≡ layAll net (beyond g d count v) found
     unfolding beyond layAll
-    running-done d h number-is = let none : left ≡ 0 = omega arith in sym (so-far .laid d number-is ∙ rw none refl)
+    running-done h = let none : left ≡ 0 = omega arith in sym (so-far .laid ∙ rw none refl)
 
 -- ---- laying pins
 

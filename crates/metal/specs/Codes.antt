@@ -1,7 +1,7 @@
 -- The map while nets are joined: at each vertex the code of the metal on it, 0 bare, a net alone, 256 several nets. Obstacles are put in at
 -- the end.
 --     laidCode, layAll     a net laid on vertices
---     beyond               the vertices beyond one, along its track
+--     beyond, extended     the vertices beyond one, along its track, and those of an extension
 --     Codes                each vertex's code is that of the metal on it
 --     Beyond               past its need a slice is as found
 --     Bare, zeroed         its need is zero
@@ -17,6 +17,8 @@ use Rattle.rules.specs.Tracks.{Entered, outside, at, entered}
 use Rattle.rules.specs.Segments.{Direction}
 use Rattle.rules.specs.Overheads.{toward}
 use Rattle.rules.specs.Maps.{netCode}
+use Rattle.rules.specs.Structs.{directionOf}
+use Rattle.rules.specs.declared.overhead.Extension.{Extension}
 
 -- the code of a vertex once net n, counted from 1, is laid on it
 unfoldable pub laidCode : (n code : ℕ) → ℕ
@@ -36,6 +38,10 @@ fromEntered after (at w) = w ∷ after w
 unfoldable pub beyond : Grid → Direction → (n v : ℕ) → List ℕ
 beyond g d zero v = []
 beyond g d (suc n) v = fromEntered (beyond g d n) (entered g v (toward d))
+
+-- the vertices of an extension beyond one
+unfoldable pub extended : Grid → (v : ℕ) → Extension → List ℕ
+extended g v e = beyond g (directionOf (e .toward)) (e .count) v
 
 -- each vertex's code is that of the metal on it
 unfoldable pub Codes : Grid → (metal : List (List ℕ)) → (codes : List ℕ) → Type 0

@@ -4,13 +4,13 @@ ghost use Prim.Native.Nat.{_<_, _≤_};
 ghost use lib.ListN.{length, getD, set};
 ghost use Rattle.job.specs.Grid.{vertices};
 ghost use Rattle.job.specs.Structs.{Sized, gridOf};
-ghost use Rattle.rules.specs.Structs.{directionOf};
-ghost use Rattle.metal.specs.Codes.{laidCode, layAll, beyond, withObstacles};
+ghost use Rattle.metal.specs.Codes.{laidCode, layAll, extended, withObstacles};
 use job::grid::Grid;
-use rules::segment::Direction;
-use rules::segment::move_toward;
-use rules::track::Entered;
-use rules::track::entered_by;
+use rules::overhead::Extension;
+use rules::track::next_toward;
+use rules::track::room_toward;
+use rules::track::track_of;
+use rules::track::vertex_by;
 
 const SEVERAL: u16 = 256;
 
@@ -31,20 +31,23 @@ pub fn lay(map: &mut [u16], v: usize, net: u16)
     }
 }
 
-// Lays a net on so many vertices beyond one, along its track.
-pub fn lay_run(map: &mut [u16], grid: Grid, v: usize, direction: Direction, count: usize, net: u16)
+// Lays a net on the vertices of an extension beyond one, along its track.
+pub fn lay_extension(map: &mut [u16], grid: Grid, v: usize, extension: Extension, net: u16)
     requires { ⌜ (Sized grid) × (v < vertices (gridOf grid)) × (vertices (gridOf grid) ≤ length (now map)) ⌝ }
-    ensures { λ _. ⌜ now (map .exit) ≡ layAll net (beyond (gridOf grid) (directionOf direction) count v) (now (map .entry)) ⌝ }
+    ensures { λ _. ⌜ now (map .exit) ≡ layAll net (extended (gridOf grid) v extension) (now (map .entry)) ⌝ }
 {
-    let number = move_toward(direction);
+    let track = track_of(grid, vertex_by(grid, v));
+    let toward = extension.toward;
+    let mut room = room_toward(track, toward);
     let mut last = v;
-    let mut left = count;
+    let mut left = extension.count;
     while 0 < left {
-        let Entered::At(next) = entered_by(grid, last, number) else {
+        if room == 0 {
             return;
-        };
-        lay(map, next, net);
-        last = next;
+        }
+        last = next_toward(track.stride, toward, last);
+        lay(map, last, net);
+        room -= 1;
         left -= 1;
     }
 }

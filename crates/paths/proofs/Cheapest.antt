@@ -11,7 +11,7 @@
 -- From numbered starts:
 --     start-least, start-none                     no rival from a start costs less than the best; where no start is best there is no rival
 --     start-dist                                  a table has the best start that `dist` has
---     start-first, start-taken, taken-only        following a table from the best start is the join that is taken, and the only one
+--     start-first, start-foremost, foremost-only        following a table from the best start is the join that is taken, and the only one
 -- By a search forward from the starts (specs/Forward, specs/Marks):
 --     one-bounds                                  every rival costs at least 1
 --     forward-least, forward-some                 no rival from a start costs less than the search found, and some join costs that
@@ -21,7 +21,7 @@
 --     start-on, on-start                          a start is on a cheapest join just where the cost to go is what the search found
 --     mark-best, best-mark                        marks stand just on the places of cheapest joins
 --     lead-keeps, lowest-lead, marks-follow       so marks are followed as a table is
---     marks-best, marks-join, marks-taken         and the join by marks is the join by a table, the one that is taken
+--     marks-best, marks-join, marks-foremost         and the join by marks is the join by a table, the one that is taken
 -- Orders of move lists and of joins:
 --     before-irrefl, before-trans, before-total, ahead-irrefl, ahead-trans, ahead-total
 -- Not here: one move of `follow` (Following, Lowest) and of `followMarks` (FollowMarks), the test of a move that leads on (Marks), what `best` chooses (Starts), the order of costs (Costs).
@@ -38,13 +38,13 @@ pub use Rattle.paths.proofs.Tables.{table-bounds, table-dist, dist-tabl
 pub use Rattle.paths.proofs.First.{follow-route, follow-first, follow-short}
 pub use Rattle.paths.proofs.Alike.{follow-same}
 pub use Rattle.paths.proofs.Orders.{before-irrefl, before-trans, before-total, ahead-irrefl, ahead-trans, ahead-total}
-pub use Rattle.paths.proofs.Joins.{start-least, start-none, start-dist, start-first, start-taken, taken-only}
+pub use Rattle.paths.proofs.Joins.{start-least, start-none, start-dist, start-first, start-foremost, foremost-only}
 pub use Rattle.paths.proofs.Forward.{one-bounds, forward-least, forward-some}
 pub use Rattle.paths.proofs.OnBest.{keeps-leads, leads-keeps, on-leads, leads-on, start-on, on-start}
 pub use Rattle.paths.proofs.BestStart.{forward-none, some-start, start-best}
 pub use Rattle.paths.proofs.Marks.{mark-best, best-mark}
 pub use Rattle.paths.proofs.FollowMarks.{lead-keeps, lowest-lead, marks-follow}
-pub use Rattle.paths.proofs.JoinMarks.{marks-best, marks-join, marks-taken}
+pub use Rattle.paths.proofs.JoinMarks.{marks-best, marks-join, marks-foremost}
 
 module _ {S : System} {Good : S .Place → Type 0} {code : S .Place → ℕ} {size dearest : ℕ} (laws : Lawful S Good code size dearest) where
   -- no rival, of any length, costs less than dist

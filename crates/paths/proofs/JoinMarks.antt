@@ -1,18 +1,18 @@
 -- The join by the marks of a forward search is the one that is taken.
 --     marked-on                   the lowest start with a mark is a start on a cheapest join
 --     marks-best                  it is the best start
---     marks-join, marks-taken     so the join by marks is the join by a table, the one that is taken
+--     marks-join, marks-foremost     so the join by marks is the join by a table, the one that is taken
 use Prim.Native.Nat.{ℕ, _≤_, _<_}
 use native.Mathlib.Omega.{arith}
 use mathlib.Core.Path.{_≡_, refl, sym, ap, subst}
 use mathlib.Core.Bool.{Bool, true, false, true≢false}
 use Rattle.paths.specs.Systems.{System, Lawful}
 use Rattle.paths.specs.Distances.{Cost, fin, Table}
-use Rattle.paths.specs.Starts.{first, best, Starts, GoodStarts, startCost, Taken, joinFrom}
+use Rattle.paths.specs.Starts.{first, best, Starts, GoodStarts, startCost, Foremost, joinFrom}
 use Rattle.paths.specs.Forward.{LowerBound, Forward}
 use Rattle.paths.specs.Marks.{OnBest, Marks, isMarked, markedStart, joinMarks}
 use Rattle.paths.proofs.Lowest.{lowest-passes}
-use Rattle.paths.proofs.Joins.{start-taken}
+use Rattle.paths.proofs.Joins.{start-foremost}
 use Rattle.paths.proofs.BestStart.{some-start, start-best}
 use Rattle.paths.proofs.Marks.{mark-best, best-mark}
 use Rattle.paths.proofs.FollowMarks.{marks-follow}
@@ -65,5 +65,5 @@ module _ {S : System} {Good : S .Place → Type 0} {code : S .Place → ℕ} {si
       ap (λ ms. record { cost = C; start = markedStart X mark; moves = ms }) (marks-follow laws T ok low F M k (ok .good below is) on)
 
   -- so it is the one that is taken
-  pub marks-taken : Taken S X (joinMarks X E C mark size)
-  marks-taken = subst (Taken S X) (sym (marks-join size)) (start-taken laws T ok marks-best)
+  pub marks-foremost : Foremost S X (joinMarks X E C mark size)
+  marks-foremost = subst (Foremost S X) (sym (marks-join size)) (start-foremost laws T ok marks-best)

@@ -1,7 +1,7 @@
 -- The join from the best start is the one that is taken.
 --     at-start, is-start             the cost from a start is its entry; a number with a finite cost is a start
 --     start-joins, start-first       the best start with what is followed from it is a join, and every other join is behind it
---     start-taken, taken-only        so it is taken, and no other is
+--     start-foremost, foremost-only        so it is taken, and no other is
 --     start-least, start-none        no rival from a start costs less; where no start is best there is no rival
 --     start-dist                     a table has the best start that `dist` has
 use Prim.Native.Nat.{ℕ, _≤_, _<_}
@@ -16,7 +16,7 @@ use Rattle.paths.specs.Systems.{System, Lawful}
 use Rattle.paths.specs.Rivals.{Rival, Before}
 use Rattle.paths.specs.Distances.{Cost, fin, dist, Table, follow}
 use Rattle.paths.specs.Starts.{Choice, none, first, best, Chooses, Starts, GoodStarts, startCost}
-use Rattle.paths.specs.Starts.{Join, Joins, Ahead, byCost, byStart, byMoves, Taken, joinFrom}
+use Rattle.paths.specs.Starts.{Join, Joins, Ahead, byCost, byStart, byMoves, Foremost, joinFrom}
 use Rattle.paths.proofs.Costs.{inf-not-fin, within-trans, within-only}
 use Rattle.paths.proofs.Routes.{route-rival}
 use Rattle.paths.proofs.Tables.{table-bounds, table-dist}
@@ -25,8 +25,8 @@ use Rattle.paths.proofs.Orders.{ahead-irrefl, ahead-trans, ahead-total}
 use Rattle.paths.proofs.Starts.{best-chooses, best-same}
 
 -- no two joins are taken
-pub taken-only : {S : System} {X : Starts S} {j k : Join} → Taken S X j → Taken S X k → j ≡ k
-taken-only {j = j} {k = k} x y = by (ahead-total j k)
+pub foremost-only : {S : System} {X : Starts S} {j k : Join} → Foremost S X j → Foremost S X k → j ≡ k
+foremost-only {j = j} {k = k} x y = by (ahead-total j k)
   where
     by : (j ≡ k) ⊎ Ahead j k ⊎ Ahead k j → j ≡ k
     by (inl e) = e
@@ -34,8 +34,8 @@ taken-only {j = j} {k = k} x y = by (ahead-total j k)
     by (inr (inr a)) = absurd (x .first k (y .joins) a)
 
 -- a join is taken where every other is behind it
-behind-taken : {S : System} {X : Starts S} (j : Join) → Joins S X j → ((k : Join) → Joins S X k → (k ≡ j) ⊎ Ahead j k) → Taken S X j
-behind-taken {S} {X} j joins behind = record { joins = joins; first = λ k x a. by k a (behind k x) }
+behind-foremost : {S : System} {X : Starts S} (j : Join) → Joins S X j → ((k : Join) → Joins S X k → (k ≡ j) ⊎ Ahead j k) → Foremost S X j
+behind-foremost {S} {X} j joins behind = record { joins = joins; first = λ k x a. by k a (behind k x) }
   where
     by : (k : Join) → Ahead k j → (k ≡ j) ⊎ Ahead j k → ⊥
     by k a (inl e) = ahead-irrefl (rw e at a)
@@ -125,5 +125,5 @@ module _ {S : System} {Good : S .Place → Type 0} {code : S .Place → ℕ} {si
             start e (within-only (D place) (fin (k .cost)) up down) (ℕ-discrete v (k .start)) (decLt v (k .start))
 
     -- so it is taken
-    pub start-taken : Taken S X (joinFrom X D size v c)
-    start-taken = behind-taken (joinFrom X D size v c) start-joins start-first
+    pub start-foremost : Foremost S X (joinFrom X D size v c)
+    start-foremost = behind-foremost (joinFrom X D size v c) start-joins start-first

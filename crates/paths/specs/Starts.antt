@@ -3,7 +3,7 @@
 --     Chosen, Chooses                  what that means, said without a recursion
 --     Starts, GoodStarts, startCost    numbered starts of a system; each good and no goal; the cost from each
 --     Join, Joins                      a start with moves and a cost; these are a route from there
---     Ahead, Taken                     which of two joins is taken; the join that is taken of all
+--     Ahead, Foremost                     which of two joins is taken; the join that no other is ahead of
 --     joinFrom                         the join from a start that follows a table
 use Prim.Native.Nat.{ℕ, zero, suc, _<_}
 use mathlib.Core.Path.{_≡_}
@@ -80,7 +80,7 @@ pub data Ahead (j k : Join) : Type 0 where
   byMoves : j .cost ≡ k .cost → j .start ≡ k .start → Before (j .moves) (k .moves) → Ahead j k
 
 -- a join that no other is ahead of
-pub record Taken (S : System) (X : Starts S) (j : Join) : Type 0 where
+pub record Foremost (S : System) (X : Starts S) (j : Join) : Type 0 where
   pub joins : Joins S X j
   pub first : (k : Join) → Joins S X k → Ahead k j → ⊥
 

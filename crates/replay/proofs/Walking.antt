@@ -18,10 +18,10 @@ use Rattle.job.specs.Structs.{gridOf}
 use Rattle.job.specs.Reading.{Read, refused, good}
 use Rattle.rules.specs.Views.{View}
 use Rattle.rules.specs.Steps.{Made, legal, step}
-use Rattle.rules.specs.Structs.{directionOf, TechFits, techBy, placeOf, madeBy, Whole}
+use Rattle.rules.specs.Structs.{TechFits, techBy, placeOf, madeBy, WholeMade}
 use Rattle.rules.specs.declared.price.Tech.{Tech as TechStruct}
 use Rattle.rules.specs.declared.step.Made.{Made as MadeStruct}
-use Rattle.metal.specs.Codes.{layAll, beyond}
+use Rattle.metal.specs.Codes.{layAll, extended}
 use Rattle.metal.proofs.Laid.{laid-length}
 use Rattle.walker.specs.Entering.{Arrays, enterBy, Gone, goneAt, goneOn}
 use Rattle.walker.specs.Structs.{walkFrom, walkOn}
@@ -113,7 +113,7 @@ module _ (tech : TechStruct) (view : View) (B : List ℕ) (net count from start 
       is-step = judged-step B (techBy tech) view spots last at (placeOf (walk .place)) is-good
 
       -- its extension is whole
-      is-whole : Whole (gridOf (tech .grid)) view (walk .place .vertex) (m .toward) (m .added)
+      is-whole : WholeMade (gridOf (tech .grid)) view (walk .place .vertex) m
       unfolding WholeJudged
       is-whole = rw told at (judged .whole)
 
@@ -123,7 +123,7 @@ module _ (tech : TechStruct) (view : View) (B : List ℕ) (net count from start 
 
       -- after the move
       pub walking-on : TechFits tech → last ≡ eqb left 1 → {more after : List ℕ} {onward : Walk} → more ≡ set spots (m .next .vertex) 1
-          → after ≡ layAll net (beyond (gridOf (tech .grid)) (directionOf (m .toward)) (m .added) (walk .place .vertex) ++ (m .next .vertex ∷ [])) codes
+          → after ≡ layAll net (extended (gridOf (tech .grid)) (walk .place .vertex) (m .extension) ++ (m .next .vertex ∷ [])) codes
           → onward ≡ walkOn walk m → Walking more after onward (at + 2) (left - 1)
       unfolding andRead
       walking-on fits isLast {more} {after} {onward} marked laid walked =
@@ -131,7 +131,7 @@ module _ (tech : TechStruct) (view : View) (B : List ℕ) (net count from start 
           let one : count - (left - 1) ≡ suc (count - left) = omega (arith, so-far .few, some) in
           record {
             gone = goneOn (so-far .gone) made;
-            made = rw (walked, one) (made-one tech view m (so-far .made) (move-fits fits) is-whole);
+            made = rw (walked, one) (made-one tech view m (so-far .made) (move-fits fits));
             same =
                 one-more ∙ ap Rest (rw isLast at is-good) ∙ ap (movesFrom B (techBy tech) view net (left - 1) (at + 2) (goneOn (so-far .gone) made)) arrays;
             next = omega (arith, so-far .next, some);

@@ -14,7 +14,7 @@ use Rattle.metal.specs.Codes.{Codes, zeroed, withObstacles}
 use Rattle.rules.specs.Views.{View}
 use Rattle.rules.specs.Places.{GoodPlace}
 use Rattle.rules.specs.Steps.{Made}
-use Rattle.rules.specs.Structs.{Whole, TechFits, techBy, placeOf, madeBy}
+use Rattle.rules.specs.Structs.{WholeMade, TechFits, techBy, placeOf, madeBy}
 use Rattle.rules.specs.declared.price.Tech.{Tech as TechStruct}
 use Rattle.rules.specs.declared.step.Place.{Place as PlaceStruct}
 use Rattle.marks.specs.declared.reached.Reached.{Reached}
@@ -47,7 +47,7 @@ judgedOf g view v (Judge.Good m) = good (madeBy g view v m)
 
 unfoldable pub WholeJudged : Grid → View → (v : ℕ) → Judged → Type 0
 WholeJudged g view v (Judge.Refused n p) = Unit
-WholeJudged g view v (Judge.Good m) = Whole g view v (m .toward) (m .added)
+WholeJudged g view v (Judge.Good m) = WholeMade g view v m
 
 pub record IsJudged (g : Grid) (view : View) (v : ℕ) (r : Judged) (x : Read Made) : Type 0 where
   pub same : judgedOf g view v r ≡ x

@@ -5,8 +5,8 @@ ghost use lib.ListN.{length};
 ghost use Rattle.bits.specs.Bits.{bitsOf};
 ghost use Rattle.job.specs.Grid.{vertices};
 ghost use Rattle.job.specs.Structs.{gridOf};
-ghost use Rattle.rules.specs.Seen.{viewBy};
-ghost use Rattle.rules.specs.Structs.{TechFits, techBy};
+ghost use Rattle.rules.specs.PriceLists.{Priced};
+ghost use Rattle.rules.specs.Structs.{TechFits, techBy, seenBy};
 ghost use Rattle.walker.specs.Entering.{Gone};
 ghost use Rattle.replay.specs.Following.{Came, arraysOf, costFrom, joinFrom};
 ghost use Rattle.replay.specs.Structs.{IsMoves, MovesFit, IsJoin, JoinFits};
@@ -45,6 +45,7 @@ pub fn end_join(plan: &[u8], at: usize, moves: MovesRead) -> JoinRead
 
 pub fn read_join(
     tech: Tech,
+    prices: &[usize; 48],
     seen: &[u8; 16384],
     spots: &mut [u8; 16384],
     map: &mut [u16],
@@ -52,20 +53,31 @@ pub fn read_join(
     net: u16,
     at: usize,
 ) -> JoinRead
-    requires { ⌜ (TechFits tech) × (vertices (gridOf (tech .grid)) ≤ length (now map)) × (at < 2 ^ 37) ⌝ }
-    ensures answer { λ r. ⌜ IsJoin r (joinFrom (bitsOf (now (plan .entry))) (techBy tech) (viewBy (gridOf (tech .grid)) (now (seen .entry))) net at
+    requires { ⌜ (TechFits tech) × (Priced (techBy tech) (now prices)) × (vertices (gridOf (tech .grid)) ≤ length (now map)) × (at < 2 ^ 37) ⌝ }
+    ensures answer { λ r. ⌜ IsJoin r (joinFrom (bitsOf (now (plan .entry))) (techBy tech) (seenBy tech (now (seen .entry))) net at
         (record { spots = now (spots .entry); codes = now (map .entry) })) ⌝ }
     ensures fits { λ r. ⌜ JoinFits (at + 2 ^ 22) r ⌝ }
     ensures spots { λ _. ⌜ now (spots .exit) ≡ arraysOf (joinFrom (bitsOf (now (plan .entry))) (techBy tech)
-        (viewBy (gridOf (tech .grid)) (now (seen .entry))) net at (record { spots = now (spots .entry); codes = now (map .entry) })) .spots ⌝ }
+        (seenBy tech (now (seen .entry))) net at (record { spots = now (spots .entry); codes = now (map .entry) })) .spots ⌝ }
     ensures map { λ _. ⌜ now (map .exit) ≡ arraysOf (joinFrom (bitsOf (now (plan .entry))) (techBy tech)
-        (viewBy (gridOf (tech .grid)) (now (seen .entry))) net at (record { spots = now (spots .entry); codes = now (map .entry) })) .codes ⌝ }
+        (seenBy tech (now (seen .entry))) net at (record { spots = now (spots .entry); codes = now (map .entry) })) .codes ⌝ }
 {
     let start = read_start(plan, tech.grid, spots, at);
     match start {
         StartRead::Refused(refusal, place) => JoinRead::Refused(refusal, place),
         StartRead::At(vertex, moves) => {
-            let walked = read_moves(tech, seen, spots, map, plan, net, moves, at + 39, vertex);
+            let walked = read_moves(
+                tech,
+                prices,
+                seen,
+                spots,
+                map,
+                plan,
+                net,
+                moves,
+                at + 39,
+                vertex,
+            );
             end_join(plan, at + 39 + 2 * moves, walked)
         }
     }

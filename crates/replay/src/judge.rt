@@ -1,10 +1,9 @@
 // Judging one move of a plan.
-ghost use mathlib.Core.Path.{_≡_};
 ghost use Prim.Native.Nat.{_<_, _^_};
 ghost use Rattle.bits.specs.Bits.{bitsOf};
 ghost use Rattle.job.specs.Structs.{gridOf};
-ghost use Rattle.rules.specs.Seen.{viewBy};
-ghost use Rattle.rules.specs.Structs.{techBy, placeOf};
+ghost use Rattle.rules.specs.PriceLists.{Priced};
+ghost use Rattle.rules.specs.Structs.{techBy, placeOf, seenBy};
 ghost use Rattle.replay.specs.Following.{judgedMove};
 ghost use Rattle.replay.specs.Structs.{AtPlace, IsJudged};
 use bits::Cursor;
@@ -23,6 +22,7 @@ pub enum Judged {
 // A move is legal, and it enters an unjoined pin just where it is the last.
 pub fn judge_move(
     tech: Tech,
+    prices: &[usize; 48],
     seen: &[u8; 16384],
     spots: &[u8; 16384],
     plan: &[u8],
@@ -30,8 +30,8 @@ pub fn judge_move(
     at: usize,
     place: Place,
 ) -> Judged
-    requires { ⌜ (AtPlace tech place) × (at < 2 ^ 40) ⌝ }
-    ensures { λ r. ⌜ (let view = viewBy (gridOf (tech .grid)) (now (seen .entry)) in
+    requires { ⌜ (AtPlace tech place) × (Priced (techBy tech) (now prices)) × (at < 2 ^ 40) ⌝ }
+    ensures { λ r. ⌜ (let view = seenBy tech (now (seen .entry)) in
         IsJudged (gridOf (tech .grid)) view (place .vertex) r
         (judgedMove (bitsOf (now (plan .entry))) (techBy tech) view (now (spots .entry)) last at (placeOf place))) ⌝ }
 {
@@ -40,7 +40,7 @@ pub fn judge_move(
         return Judged::Refused(15, at);
     }
     let number = cursor.field(plan, 2);
-    let Stepped::Legal(made) = step(tech, seen, place, number.value) else {
+    let Stepped::Legal(made) = step(tech.grid, prices, seen, place, number.value) else {
         return Judged::Refused(17, at);
     };
     let vertex = made.next.vertex;

@@ -5,8 +5,8 @@ ghost use lib.ListN.{length};
 ghost use Rattle.bits.specs.Bits.{bitsOf};
 ghost use Rattle.job.specs.Grid.{vertices};
 ghost use Rattle.job.specs.Structs.{gridOf};
-ghost use Rattle.rules.specs.Seen.{viewBy};
-ghost use Rattle.rules.specs.Structs.{TechFits, techBy};
+ghost use Rattle.rules.specs.PriceLists.{Priced};
+ghost use Rattle.rules.specs.Structs.{TechFits, techBy, seenBy};
 ghost use Rattle.walker.specs.Entering.{goneAt};
 ghost use Rattle.replay.specs.Following.{arraysOf, movesFrom};
 ghost use Rattle.replay.specs.Structs.{IsMoves, MovesFit};
@@ -25,6 +25,7 @@ pub enum MovesRead {
 
 pub fn read_moves(
     tech: Tech,
+    prices: &[usize; 48],
     seen: &[u8; 16384],
     spots: &mut [u8; 16384],
     map: &mut [u16],
@@ -34,16 +35,16 @@ pub fn read_moves(
     from: usize,
     start: usize,
 ) -> MovesRead
-    requires { ⌜ (TechFits tech) × (vertices (gridOf (tech .grid)) ≤ length (now map)) × (start < vertices (gridOf (tech .grid)))
+    requires { ⌜ (TechFits tech) × (Priced (techBy tech) (now prices)) × (vertices (gridOf (tech .grid)) ≤ length (now map)) × (start < vertices (gridOf (tech .grid)))
         × (count < 2 ^ 20) × (from < 2 ^ 38) ⌝ }
-    ensures answer { λ r. ⌜ IsMoves r (movesFrom (bitsOf (now (plan .entry))) (techBy tech) (viewBy (gridOf (tech .grid)) (now (seen .entry))) net count from
+    ensures answer { λ r. ⌜ IsMoves r (movesFrom (bitsOf (now (plan .entry))) (techBy tech) (seenBy tech (now (seen .entry))) net count from
         (goneAt start) (record { spots = now (spots .entry); codes = now (map .entry) })) ⌝ }
     ensures fits { λ r. ⌜ MovesFit r ⌝ }
     ensures spots { λ _. ⌜ now (spots .exit) ≡ arraysOf (movesFrom (bitsOf (now (plan .entry))) (techBy tech)
-        (viewBy (gridOf (tech .grid)) (now (seen .entry))) net count from (goneAt start)
+        (seenBy tech (now (seen .entry))) net count from (goneAt start)
         (record { spots = now (spots .entry); codes = now (map .entry) })) .spots ⌝ }
     ensures map { λ _. ⌜ now (map .exit) ≡ arraysOf (movesFrom (bitsOf (now (plan .entry))) (techBy tech)
-        (viewBy (gridOf (tech .grid)) (now (seen .entry))) net count from (goneAt start)
+        (seenBy tech (now (seen .entry))) net count from (goneAt start)
         (record { spots = now (spots .entry); codes = now (map .entry) })) .codes ⌝ }
 {
     let mut walk = walk_from(start);
@@ -51,7 +52,7 @@ pub fn read_moves(
     let mut left = count;
     while 0 < left {
         let place = walk.place;
-        let judged = judge_move(tech, seen, spots, plan, left == 1, at, place);
+        let judged = judge_move(tech, prices, seen, spots, plan, left == 1, at, place);
         match judged {
             Judged::Good(made) => {
                 enter_move(map, spots, tech.grid, place.vertex, made, net);

@@ -5,8 +5,8 @@ ghost use lib.ListN.{length, take};
 ghost use Rattle.bits.specs.Bits.{bitsOf};
 ghost use Rattle.job.specs.Grid.{vertices};
 ghost use Rattle.job.specs.Structs.{gridOf};
-ghost use Rattle.rules.specs.Seen.{viewBy};
-ghost use Rattle.rules.specs.Structs.{TechFits, techBy};
+ghost use Rattle.rules.specs.PriceLists.{Priced};
+ghost use Rattle.rules.specs.Structs.{TechFits, techBy, seenBy};
 ghost use Rattle.tree.specs.Spots.{Pins};
 ghost use Rattle.walker.specs.Structs.{totalsOf, Bounded};
 ghost use Rattle.replay.specs.Following.{arraysOf, netFrom};
@@ -17,6 +17,7 @@ use bits::Cursor;
 use rules::price::Tech;
 use rules::totals::Totals;
 use tree::some_unjoined;
+use walker::NetAtHand;
 
 // The bit before a record.
 pub enum Flag {
@@ -50,30 +51,30 @@ pub fn read_flag(plan: &[u8], at: usize) -> Flag
 // Joins until every pin is joined, or a record that says none.
 pub fn read_records(
     tech: Tech,
+    prices: &[usize; 48],
     seen: &[u8; 16384],
     spots: &mut [u8; 16384],
     map: &mut [u16],
     plan: &[u8],
-    net: u16,
+    hand: NetAtHand,
     pins: &[usize; 16],
-    count: usize,
     from: usize,
     before: Totals,
 ) -> NetRead
-    requires { ⌜ (TechFits tech) × (vertices (gridOf (tech .grid)) ≤ length (now map)) × (Pins (now pins) count) × (net < 256)
-        × (Bounded (16 * net) before from) ⌝ }
-    ensures answer { λ r. ⌜ IsNet r (netFrom (bitsOf (now (plan .entry))) (techBy tech) (viewBy (gridOf (tech .grid)) (now (seen .entry))) net
-        (take count (now (pins .entry))) count from (totalsOf before) (record { spots = now (spots .entry); codes = now (map .entry) })) ⌝ }
-    ensures fits { λ r. ⌜ NetFits (16 * net + 16) r ⌝ }
+    requires { ⌜ (TechFits tech) × (Priced (techBy tech) (now prices)) × (vertices (gridOf (tech .grid)) ≤ length (now map))
+        × (Pins (now pins) (hand .pins)) × (hand .number < 256) × (Bounded (16 * hand .number) before from) ⌝ }
+    ensures answer { λ r. ⌜ IsNet r (netFrom (bitsOf (now (plan .entry))) (techBy tech) (seenBy tech (now (seen .entry))) (hand .number)
+        (take (hand .pins) (now (pins .entry))) (hand .pins) from (totalsOf before) (record { spots = now (spots .entry); codes = now (map .entry) })) ⌝ }
+    ensures fits { λ r. ⌜ NetFits (16 * hand .number + 16) r ⌝ }
     ensures map { λ _. ⌜ now (map .exit) ≡ arraysOf (netFrom (bitsOf (now (plan .entry))) (techBy tech)
-        (viewBy (gridOf (tech .grid)) (now (seen .entry))) net (take count (now (pins .entry))) count from (totalsOf before)
+        (seenBy tech (now (seen .entry))) (hand .number) (take (hand .pins) (now (pins .entry))) (hand .pins) from (totalsOf before)
         (record { spots = now (spots .entry); codes = now (map .entry) })) .codes ⌝ }
 {
     let mut totals = before;
     let mut at = from;
-    let mut left = count;
+    let mut left = hand.pins;
     while 0 < left {
-        if !some_unjoined(spots, pins, count) {
+        if !some_unjoined(spots, pins, hand.pins) {
             return NetRead::Ended(totals.with_net(), at);
         }
         let flag = read_flag(plan, at);
@@ -86,7 +87,7 @@ pub fn read_records(
             }
             Flag::Join => {}
         }
-        let joined = read_join(tech, seen, spots, map, plan, net, at + 1);
+        let joined = read_join(tech, prices, seen, spots, map, plan, hand.number, at + 1);
         match joined {
             JoinRead::Refused(refusal, place) => {
                 return NetRead::Refused(refusal, place);

@@ -9,8 +9,8 @@ ghost use Rattle.job.specs.Reading.{good, readJob};
 ghost use Rattle.job.specs.Structs.{gridOf};
 ghost use Rattle.rules.specs.Standings.{metalAtFirst};
 ghost use Rattle.rules.specs.Routings.{noTotals};
-ghost use Rattle.rules.specs.Seen.{viewBy};
-ghost use Rattle.rules.specs.Structs.{TechFits, techBy};
+ghost use Rattle.rules.specs.PriceLists.{Priced};
+ghost use Rattle.rules.specs.Structs.{TechFits, techBy, seenBy};
 ghost use Rattle.plan.specs.Reading.{readNets};
 ghost use Rattle.metal.specs.Codes.{Beyond};
 ghost use Rattle.tree.specs.Spots.{Pins, begunSpots};
@@ -20,45 +20,47 @@ ghost use Rattle.replay.specs.Structs.{IsNet, NetFits, IsNets};
 use crate::net::NetRead;
 use crate::net::read_records;
 use reader::load::load_net;
+use rules::list::fill_prices;
 use rules::price::Tech;
 use rules::totals::Totals;
 use rules::totals::no_totals;
 use tree::begin_tree;
 use views::sight::see_net;
+use walker::NetAtHand;
 
 // A net's tree starts as its first pin.
 pub fn read_net(
     tech: Tech,
+    prices: &[usize; 48],
     seen: &[u8; 16384],
     map: &mut [u16],
     plan: &[u8],
-    net: u16,
+    hand: NetAtHand,
     pins: &[usize; 16],
-    count: usize,
     from: usize,
     before: Totals,
 ) -> NetRead
-    requires { ⌜ (TechFits tech) × (vertices (gridOf (tech .grid)) ≤ length (now map)) × (Pins (now pins) count) × (net < 256)
-        × (Bounded (16 * net) before from) ⌝ }
-    ensures answer { λ r. ⌜ IsNet r (netFrom (bitsOf (now (plan .entry))) (techBy tech) (viewBy (gridOf (tech .grid)) (now (seen .entry))) net
-        (take count (now (pins .entry))) count from (totalsOf before)
-        (record { spots = begunSpots (take count (now (pins .entry))) (replicate 16384 0); codes = now (map .entry) })) ⌝ }
-    ensures fits { λ r. ⌜ NetFits (16 * net + 16) r ⌝ }
+    requires { ⌜ (TechFits tech) × (Priced (techBy tech) (now prices)) × (vertices (gridOf (tech .grid)) ≤ length (now map))
+        × (Pins (now pins) (hand .pins)) × (hand .number < 256) × (Bounded (16 * hand .number) before from) ⌝ }
+    ensures answer { λ r. ⌜ IsNet r (netFrom (bitsOf (now (plan .entry))) (techBy tech) (seenBy tech (now (seen .entry))) (hand .number)
+        (take (hand .pins) (now (pins .entry))) (hand .pins) from (totalsOf before)
+        (record { spots = begunSpots (take (hand .pins) (now (pins .entry))) (replicate 16384 0); codes = now (map .entry) })) ⌝ }
+    ensures fits { λ r. ⌜ NetFits (16 * hand .number + 16) r ⌝ }
     ensures map { λ _. ⌜ now (map .exit) ≡ arraysOf (netFrom (bitsOf (now (plan .entry))) (techBy tech)
-        (viewBy (gridOf (tech .grid)) (now (seen .entry))) net (take count (now (pins .entry))) count from (totalsOf before)
-        (record { spots = begunSpots (take count (now (pins .entry))) (replicate 16384 0); codes = now (map .entry) })) .codes ⌝ }
+        (seenBy tech (now (seen .entry))) (hand .number) (take (hand .pins) (now (pins .entry))) (hand .pins) from (totalsOf before)
+        (record { spots = begunSpots (take (hand .pins) (now (pins .entry))) (replicate 16384 0); codes = now (map .entry) })) .codes ⌝ }
 {
     let mut spots = [0u8; 16384];
-    begin_tree(&mut spots, pins, count);
+    begin_tree(&mut spots, pins, hand.pins);
     read_records(
         tech,
+        prices,
         seen,
         &mut spots,
         map,
         plan,
-        net,
+        hand,
         pins,
-        count,
         from,
         before,
     )
@@ -88,6 +90,8 @@ pub fn read_nets(
     let mut totals = no_totals();
     let mut net: u16 = 0;
     let mut left = nets;
+    let mut prices: [usize; 48] = [0; 48];
+    fill_prices(&mut prices, tech);
     while 0 < left {
         let loaded = load_net(s, tech.grid, place, &mut pins, &mut boxes);
         net += 1;
@@ -102,7 +106,11 @@ pub fn read_nets(
             loaded.boxes,
             net,
         );
-        let read = read_net(tech, &seen, map, plan, net, &pins, loaded.pins, at, totals);
+        let hand = NetAtHand {
+            number: net,
+            pins: loaded.pins,
+        };
+        let read = read_net(tech, &prices, &seen, map, plan, hand, &pins, at, totals);
         match read {
             NetRead::Refused(refusal, bit) => {
                 return NetRead::Refused(refusal, bit);

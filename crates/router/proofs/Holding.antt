@@ -29,7 +29,7 @@ use Rattle.reader.specs.declared.whole.JobRead.{JobRead}
 use Rattle.reader.proofs.Lines.{largest-lines, eight-length}
 use Rattle.reader.proofs.Outcome.{ReadGood, least-below}
 use Rattle.marks.specs.Marks.{Marks}
-use Rattle.rules.specs.Prices.{techOf}
+use Rattle.rules.specs.Prices.{Tech, techOf}
 use Rattle.rules.specs.Structs.{lineAt, linesFrom, techBy}
 use Rattle.rules.proofs.Techs.{good-tech}
 use Rattle.walker.specs.Structs.{PlanHeld}
@@ -131,15 +131,18 @@ module _ (head : HeadStruct) (layers : Layers) (holds : HeadHolds head layers) w
   -- what is held is the job's
   held-is : (bytes marks : List ℕ) → readJob bytes ≡ good (holds .job)
       → Marks (holds .job .grid) (holds .job .obstacles) (allPins (holds .job .nets)) marks → JobHeld bytes marks (heldOf head layers)
-  unfolding heldOf workNeed netsAt obstaclesAt
+  unfolding heldOf workNeed netsAt obstaclesAt techOf
   held-is bytes marks read marked =
       record {
         job = holds .job;
         read = read;
         marked = marked;
         layers = tech-is;
-        fits = record { sized = holds-sized; good = rw tech-is (good-tech (holds .rules)) };
-        largest = largest-is;
+        fits = record {
+          sized = holds-sized;
+          good = rw tech-is (good-tech (holds .rules));
+          largest = largest-is ∙ sym (ap (λ (t : Tech). largestMinLength (t .lines)) tech-is);
+        };
         vertices = ap vertices grid;
         work = rw (grid, largest-is) refl;
         nets = ap (λ (h : HeadStruct). h .nets) (sym (holds .heads));

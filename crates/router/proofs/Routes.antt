@@ -33,8 +33,7 @@ use Rattle.metal.proofs.Slices.{zeroed-bare, zeroed-beyond}
 use Rattle.metal.proofs.Finished.{length-map}
 use Rattle.walker.specs.Structs.{PlanHeld}
 use Rattle.replay.specs.Structs.{replayedMap}
-use Rattle.front.specs.Fronts.{Searched}
-use Rattle.front.specs.Charts.{Blank}
+use Rattle.search.specs.Charts.{Blank}
 use Rattle.routing.specs.Plans.{planBits}
 use Rattle.router.specs.Room.{workNeed, readWithRoom}
 use Rattle.router.specs.Routing.{refusedRouting, totalResult, routingLeaves, routingOf}
@@ -47,8 +46,7 @@ use Rattle.router.proofs.Ends.{routes-short, routes-whole}
 -- what routing asks, with the need of work zero
 pub route-asked : {bytes marks : List ℕ} {held : Held} (h : JobHeld bytes marks held) (map work : List ℕ) {workNow : List ℕ}
     → Roomy bytes (h .job) map work → workNow ≡ zeroed (held .work) work
-    → PlanHeld bytes (held .tech) marks map (held .nets) (held .from) × Searched (held .tech) (held .largest)
-    × Blank (techBy (held .tech)) workNow
+    → PlanHeld bytes (held .tech) marks map (held .nets) (held .from) × Blank (techBy (held .tech)) workNow
 unfolding Bare places techOf workNeed
 route-asked {bytes} {marks} {held} h map work roomy zeros =
     let j = h .job in
@@ -60,7 +58,6 @@ route-asked {bytes} {marks} {held} h map work roomy zeros =
     let room : held .work ≤ length work = omega (arith, h .work, roomy .need) in
     rw zeros (
       plan-asked h (roomy .vertices),
-      record { fits = h .fits; is = h .largest ∙ sym (ap (λ (t : Tech). largestMinLength (t .lines)) (h .layers)) },
       record {
         room = omega (arith, need, room, zeroed-beyond {xs = work} room .size);
         bare = λ c below. zeroed-bare (held .work) work c (omega (arith, need, below));

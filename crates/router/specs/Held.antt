@@ -7,7 +7,7 @@ use mathlib.Core.Path.{_≡_}
 use mathlib.Core.List.{List}
 use lib.ListN.{length}
 use Rattle.job.specs.Grid.{vertices}
-use Rattle.job.specs.Job.{Job, largestMinLength}
+use Rattle.job.specs.Job.{Job}
 use Rattle.job.specs.Good.{GoodJob, allPins}
 use Rattle.job.specs.Reading.{Read, refused, good, jobHead, netsAt, readJob}
 use Rattle.job.specs.Structs.{gridOf, headStruct, layersOf}
@@ -37,8 +37,7 @@ pub record HeadHolds (head : HeadStruct) (layers : Layers) : Type 0 where
 unfoldable pub heldOf : HeadStruct → Layers → Held
 heldOf head layers =
     record {
-      tech = record { grid = head .grid; layers = layers; guide = head .guide; short = head .short };
-      largest = largestIn (layers .least);
+      tech = record { grid = head .grid; layers = layers; largest = largestIn (layers .least); guide = head .guide; short = head .short };
       vertices = vertices (gridOf (head .grid));
       work = vertices (gridOf (head .grid)) * 4 * (largestIn (layers .least) + 1);
       nets = head .nets;
@@ -52,7 +51,6 @@ pub record JobHeld (bytes marks : List ℕ) (held : Held) : Type 0 where
   pub marked : Marks (job .grid) (job .obstacles) (allPins (job .nets)) marks
   pub layers : techBy (held .tech) ≡ techOf job
   pub fits : TechFits (held .tech)
-  pub largest : held .largest ≡ largestMinLength (job .lines)
   pub vertices : held .vertices ≡ vertices (job .grid)
   pub work : held .work ≡ workNeed job
   pub nets : length (job .nets) ≡ held .nets

@@ -7,10 +7,9 @@ use job::layers::Layers;
 use reader::layers::largest_least;
 use rules::price::Tech;
 
-// Its layers with the largest M, its needs, how many nets it has and at which bit they begin.
+// Its layers, its needs, how many nets it has and at which bit they begin.
 pub(crate) struct Held {
     pub tech: Tech,
-    pub largest: usize,
     pub vertices: usize,
     pub work: usize,
     pub nets: usize,
@@ -27,12 +26,12 @@ pub(crate) fn held_of(head: Head, layers: Layers) -> Held
     let tech = Tech {
         grid,
         layers,
+        largest,
         guide: head.guide,
         short: head.short,
     };
     Held {
         tech,
-        largest,
         vertices,
         work: vertices * 4 * (largest + 1),
         nets: head.nets,

@@ -99,17 +99,7 @@ fn route_job(
         Room::Enough => {
             zero_words(work, held.work);
             let tech = held.tech;
-            let routed = route_plan(
-                bytes,
-                tech,
-                marks,
-                map,
-                held.largest,
-                work,
-                plan,
-                held.nets,
-                held.from,
-            );
+            let routed = route_plan(bytes, tech, marks, map, work, plan, held.nets, held.from);
             let totals = routed.totals;
             end_routing(map, plan, held.vertices, totals, (routed.bits + 7) / 8)
         }

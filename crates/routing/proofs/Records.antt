@@ -37,9 +37,9 @@ use Rattle.walker.specs.Entering.{Arrays, goneAt, Entered, entered, enterAll, l
 use Rattle.walker.specs.Standing.{AtNet}
 use Rattle.walker.specs.Structs.{IsEntered, WalkFits, totalsOf, Bounded}
 use Rattle.walker.specs.declared.Walk.{Walk}
-use Rattle.search.specs.Joined.{leftBy, IsJoined, JoinedFits}
-use Rattle.search.specs.declared.join.Joined.{Joined}
-use Rattle.search.specs.declared.join.Joined.the-variants as Joins
+use Rattle.joins.specs.Joined.{leftBy, IsJoined, JoinedFits, Written}
+use Rattle.joins.specs.declared.join.Joined.{Joined}
+use Rattle.joins.specs.declared.join.Joined.the-variants as Joins
 use Rattle.routing.specs.Structs.{NetHere, IsRouted}
 use Rattle.routing.specs.declared.routed.Routed.{Routed as RoutedStruct}
 use Rattle.routing.proofs.Joins.{join-made, route-all, route-more}
@@ -175,10 +175,7 @@ module _ (tech : TechStruct) (view : View) (net : ℕ) (pins : List ℕ) (count 
       abbrev pub Says : Tech → Type 0
       Says t =
           (tree unjoined : List ℕ) → Spots (t .grid) tree unjoined spots → Apart t tree unjoined
-          → IsJoined t view net bits (record { spots = spots; codes = codes }) answer (joinOf t view tree unjoined)
-          × ((spots′ ≡ leftBy t view net (joinOf t view tree unjoined) (record { spots = spots; codes = codes }) .spots)
-          × ((codes′ ≡ leftBy t view net (joinOf t view tree unjoined) (record { spots = spots; codes = codes }) .codes)
-          × (plan′ ≡ putBits plan bits (recordBits (t .grid) (joinOf t view tree unjoined)))))
+          → Written t view net bits (record { spots = spots; codes = codes }) plan answer (joinOf t view tree unjoined) spots′ codes′ plan′
 
       module _ (says : Says (techBy tech)) (j : Job) (k : ℕ) (s : Standing) (h : NetHere j k s tech view net pins first) where
         abbrev t : Told j k s spots codes plan totals bits left
@@ -195,9 +192,7 @@ module _ (tech : TechStruct) (view : View) (net : ℕ) (pins : List ℕ) (count 
         entry r = record { net = k; before = t .now; written = r }
 
         -- what the search says of it
-        said : IsJoined (techOf j) view net bits arrays answer written
-            × ((spots′ ≡ leftBy (techOf j) view net written arrays .spots)
-            × ((codes′ ≡ leftBy (techOf j) view net written arrays .codes) × (plan′ ≡ putBits plan bits (recordBits (j .grid) written))))
+        said : Written (techOf j) view net bits arrays plan answer written spots′ codes′ plan′
         unfolding techOf
         said = subst Says (h .layers) says (t .now .tree) (t .now .unjoined) (t .here .stood .spots) (t .here .apart)
 
@@ -216,16 +211,16 @@ module _ (tech : TechStruct) (view : View) (net : ℕ) (pins : List ℕ) (count 
 
         -- none
         none-routed : answer ≡ Joins.None → IsRouted j (routeNet j k count s (totalsOf before)) from (record { totals = totals; bits = bits + 1 }) found plan′ (first .codes) codes′
-        unfolding IsJoined leftBy byRecord withEntries recordBits
-        none-routed told = by written refl (subst (λ (a : Joined). IsJoined (techOf j) view net bits arrays a written) told (said .0))
+        unfolding IsJoined leftBy byRecord withEntries recordBits techOf putBits
+        none-routed told = by written refl (subst (λ (a : Joined). IsJoined (techOf j) view net bits arrays a written) told (said .joined))
           where
             by : (r : Record) → written ≡ r → IsJoined (techOf j) view net bits arrays Joins.None r
                 → IsRouted j (routeNet j k count s (totalsOf before)) from (record { totals = totals; bits = bits + 1 }) found plan′ (first .codes) codes′
             by none e is =
                 let whole = one-more ∙ ap (λ (r : Record). withEntries (t .done) (byRecord j k (t .now) (totalsOf totals) (routeNet j k (left - 1)) r)) e in
                 let more = entries-put (j .grid) (t .done) (entry none) found from (t .put) (t .next)
-                (said .1 .1 .1 ∙ ap (λ (r : Record). putBits plan bits (recordBits (j .grid) r)) e) in
-                let still : codes′ ≡ codes = said .1 .1 .0 ∙ ap (λ (r : Record). leftBy (techOf j) view net r arrays .codes) e in
+                (said .put ∙ ap (λ (r : Record). putBits plan bits (recordBits (j .grid) r)) e) in
+                let still : codes′ ≡ codes = said .laid ∙ ap (λ (r : Record). leftBy (techOf j) view net r arrays .codes) e in
                 let wide = length-fieldBits 1 0 in
                 rw (whole, still) (record {
                   totals = refl;
@@ -240,8 +235,8 @@ module _ (tech : TechStruct) (view : View) (net : ℕ) (pins : List ℕ) (count 
         join-told : {w : Walk} {next : ℕ} {more : TotalsStruct} → answer ≡ Joins.Join w next
             → more ≡ record { cost = totals .cost + w .cost; added = totals .added + w .added; penalties = totals .penalties + w .penalties; joined = totals .joined }
             → Told j k s spots′ codes′ plan′ more next (left - 1)
-        unfolding IsJoined leftBy leftIn IsEntered byRecord withEntries withJoin afterJoin
-        join-told {w} {next} {more} told summed = by written refl (subst (λ (a : Joined). IsJoined (techOf j) view net bits arrays a written) told (said .0))
+        unfolding IsJoined leftBy leftIn IsEntered byRecord withEntries withJoin afterJoin techOf putBits
+        join-told {w} {next} {more} told summed = by written refl (subst (λ (a : Joined). IsJoined (techOf j) view net bits arrays a written) told (said .joined))
           where
             by : (r : Record) → written ≡ r → IsJoined (techOf j) view net bits arrays (Joins.Join w next) r → Told j k s spots′ codes′ plan′ more next (left - 1)
             by none e is = absurd is
@@ -258,12 +253,12 @@ module _ (tech : TechStruct) (view : View) (net : ℕ) (pins : List ℕ) (count 
                   joined = totals .joined;
                 }) in
                 let spots-now : spots′ ≡ made .left .spots =
-                said .1 .0 ∙ ap (λ (r : Record). leftBy (techOf j) view net r arrays .spots) e ∙ ap (λ (x : Entered). leftIn arrays x .spots) enters in
+                said .marked ∙ ap (λ (r : Record). leftBy (techOf j) view net r arrays .spots) e ∙ ap (λ (x : Entered). leftIn arrays x .spots) enters in
                 let codes-now : codes′ ≡ made .left .codes =
-                said .1 .1 .0 ∙ ap (λ (r : Record). leftBy (techOf j) view net r arrays .codes) e ∙ ap (λ (x : Entered). leftIn arrays x .codes) enters in
+                said .laid ∙ ap (λ (r : Record). leftBy (techOf j) view net r arrays .codes) e ∙ ap (λ (x : Entered). leftIn arrays x .codes) enters in
                 let arrays-now : made .left ≡ record { spots = spots′; codes = codes′ } = λ i. record { spots = sym spots-now i; codes = sym codes-now i } in
                 let put = entries-put (j .grid) (t .done) (entry (join start moves cost)) found from (t .put) (t .next)
-                (said .1 .1 .1 ∙ ap (λ (r : Record). putBits plan bits (recordBits (j .grid) r)) e) in
+                (said .put ∙ ap (λ (r : Record). putBits plan bits (recordBits (j .grid) r)) e) in
                 let stands = joinedBy k (t .now) (made .last .vertex) (made .sum) in
                 let done = t .done ++ (entry (join start moves cost) ∷ []) in
                 record {

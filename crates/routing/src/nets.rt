@@ -5,18 +5,16 @@ ghost use Rattle.job.specs.Reading.{good, readJob};
 ghost use Rattle.rules.specs.Routings.{routing};
 ghost use Rattle.rules.specs.Structs.{techBy};
 ghost use Rattle.walker.specs.Structs.{Bounded, NetsHeld};
-ghost use Rattle.front.specs.Fronts.{Searched};
-ghost use Rattle.front.specs.Charts.{Blank};
+ghost use Rattle.search.specs.Charts.{Blank};
 ghost use Rattle.routing.specs.Structs.{IsRouted};
 use crate::net::route_net;
 use crate::routed::Routed;
 use reader::load::load_net;
+use rules::list::fill_prices;
 use rules::price::Tech;
 use rules::totals::no_totals;
-use runs::fill::fill_runs;
-use tables::ground::fill_ground;
-use tables::rates::fill_rates;
 use views::sight::see_net;
+use walker::NetAtHand;
 
 // All nets, in job order.
 pub fn route_nets(
@@ -24,13 +22,12 @@ pub fn route_nets(
     tech: Tech,
     marks: &[u8; 16384],
     map: &mut [u16],
-    largest: usize,
     work: &mut [u64],
     plan: &mut [u8],
     nets: usize,
     from: usize,
 ) -> Routed
-    requires { ⌜ (NetsHeld (now s) tech (now marks) (now map) nets from) × (Searched tech largest) × (Blank (techBy tech) (now work)) ⌝ }
+    requires { ⌜ (NetsHeld (now s) tech (now marks) (now map) nets from) × (Blank (techBy tech) (now work)) ⌝ }
     ensures answer { λ r. ⌜ ((j : Job) → readJob (now (s .entry)) ≡ good j
         → IsRouted j (routing j) 0 r (now (plan .entry)) (now (plan .exit)) (now (map .entry)) (now (map .exit))) ⌝ }
     ensures fits { λ r. ⌜ Bounded 4112 (r .totals) (r .bits) ⌝ }
@@ -40,16 +37,14 @@ pub fn route_nets(
     let mut pins: [usize; 16] = [0; 16];
     let mut boxes: [usize; 90] = [0; 90];
     let mut place = from;
-    let mut bits: usize = 0;
-    let mut totals = no_totals();
+    let mut routed = Routed {
+        totals: no_totals(),
+        bits: 0,
+    };
     let mut net: u16 = 0;
     let mut left = nets;
-    let mut rates: [usize; 40] = [0; 40];
-    let mut ground = [0u8; 16384];
-    let mut lows = [0u8; 16384];
-    let mut highs = [0u8; 16384];
-    fill_rates(&mut rates, tech);
-    fill_ground(&mut ground, tech.grid);
+    let mut prices: [usize; 48] = [0; 48];
+    fill_prices(&mut prices, tech);
     while 0 < left {
         let loaded = load_net(s, tech.grid, place, &mut pins, &mut boxes);
         net += 1;
@@ -64,28 +59,13 @@ pub fn route_nets(
             loaded.boxes,
             net,
         );
-        fill_runs(&mut lows, &mut highs, tech.grid, &seen);
-        let routed = route_net(
-            tech,
-            &rates,
-            &ground,
-            &seen,
-            &lows,
-            &highs,
-            map,
-            largest,
-            work,
-            plan,
-            net,
-            &pins,
-            loaded.pins,
-            bits,
-            totals,
-        );
-        totals = routed.totals;
-        bits = routed.bits;
+        let hand = NetAtHand {
+            number: net,
+            pins: loaded.pins,
+        };
+        routed = route_net(tech, &prices, &seen, map, work, plan, hand, &pins, routed);
         place = loaded.next;
         left -= 1;
     }
-    Routed { totals, bits }
+    routed
 }

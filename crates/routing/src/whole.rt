@@ -11,8 +11,7 @@ ghost use Rattle.rules.specs.Routings.{routing};
 ghost use Rattle.rules.specs.Maps.{mapOf};
 ghost use Rattle.rules.specs.Structs.{techBy};
 ghost use Rattle.walker.specs.Structs.{totalsOf, PlanHeld};
-ghost use Rattle.front.specs.Fronts.{Searched};
-ghost use Rattle.front.specs.Charts.{Blank};
+ghost use Rattle.search.specs.Charts.{Blank};
 ghost use Rattle.routing.specs.Plans.{planBits};
 use crate::nets::route_nets;
 use crate::routed::Routed;
@@ -27,13 +26,12 @@ pub fn route_plan(
     tech: Tech,
     marks: &[u8; 16384],
     map: &mut [u16],
-    largest: usize,
     work: &mut [u64],
     plan: &mut [u8],
     nets: usize,
     from: usize,
 ) -> Routed
-    requires { ⌜ (PlanHeld (now s) tech (now marks) (now map) nets from) × (Searched tech largest) × (Blank (techBy tech) (now work)) ⌝ }
+    requires { ⌜ (PlanHeld (now s) tech (now marks) (now map) nets from) × (Blank (techBy tech) (now work)) ⌝ }
     ensures answer { λ r. ⌜ ((j : Job) → readJob (now (s .entry)) ≡ good j → (totalsOf (r .totals) ≡ routing j .totals) × (r .bits ≡ length (planBits j))) ⌝ }
     ensures fits { λ r. ⌜ r .bits ≤ 2 ^ 23 * 4112 ⌝ }
     ensures map { λ _. ⌜ ((j : Job) → readJob (now (s .entry)) ≡ good j
@@ -44,7 +42,7 @@ pub fn route_plan(
     let count = tech.grid.vertices();
     zero_codes(map, count);
     lay_all_pins(s, tech.grid, nets, from, map);
-    let routed = route_nets(s, tech, marks, map, largest, work, plan, nets, from);
+    let routed = route_nets(s, tech, marks, map, work, plan, nets, from);
     put_obstacles(map, marks, count);
     routed
 }

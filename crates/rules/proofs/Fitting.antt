@@ -3,9 +3,11 @@
 --     low-by, down-by   what a move low or down takes off is no more than the vertex
 --     enters-none       a number that is no move's
 --     track-read        what the code has read of a vertex and its track
+--     layer-known       a vertex's layer is below 8
 --     entered-outside, entered-at   what was entered, from the code's form
 use Prim.Native.Nat.{ℕ, zero, suc, _+_, _-_, _*_, _≤_, _<_}
 use mathlib.Core.Path.{_≡_, refl, ap, _∙_}
+use mathlib.Core.List.{List}
 use mathlib.Core.Bool.{Bool, true, false, cond}
 use native.Mathlib.Omega.{arith}
 use lib.Dec.{ltb}
@@ -14,12 +16,13 @@ use Rattle.job.specs.Structs.{gridOf, vertexOf, vertexStruct}
 use Rattle.job.specs.declared.grid.Grid.{Grid as GridStruct}
 use Rattle.job.specs.declared.grid.Vertex.{Vertex as VertexStruct}
 use Rattle.job.proofs.Sizes.{product-within, small-vertices}
-use Rattle.rules.specs.Tracks.{layerOf, vertexBy, trackPlace, trackLength, Entered, outside, at, ifThere, entered}
-use Rattle.rules.specs.Structs.{OnGrid, enteredOf, trackOf}
+use Rattle.rules.specs.Tracks.{layerOf, vertexBy, trackIndex, trackLength, Entered, outside, at, ifThere, entered}
+use Rattle.rules.specs.Structs.{OnGrid, enteredOf, trackOf, Here}
 use Rattle.rules.specs.declared.track.Entered.the-variants.{Outside, At}
 use Rattle.rules.specs.declared.track.Track.{Track}
+use Rattle.rules.specs.declared.price.Tech.{Tech as TechStruct}
 use Rattle.rules.proofs.Vertices.{vertex-below}
-use Rattle.rules.proofs.Neighbours.{low-enters, down-enters}
+use Rattle.rules.proofs.Neighbours.{index-below, low-enters, down-enters}
 
 pub record VertexFits (g : GridStruct) (v : ℕ) : Type 0 where
   pub columns : 0 < g .columns
@@ -45,7 +48,7 @@ fits g v on =
     }
 
 -- a step low takes off no more than the vertex
-pub low-by : (g : GridStruct) (v : ℕ) → OnGrid g v → ltb 0 (trackPlace (gridOf g) v) ≡ true → strideOf (gridOf g) (layerOf (gridOf g) v) ≤ v
+pub low-by : (g : GridStruct) (v : ℕ) → OnGrid g v → ltb 0 (trackIndex (gridOf g) v) ≡ true → strideOf (gridOf g) (layerOf (gridOf g) v) ≤ v
 unfolding entered ifThere
 low-by g v on h =
     let w = v - strideOf (gridOf g) (layerOf (gridOf g) v) in
@@ -63,10 +66,11 @@ down-by g v on h =
 -- what the code has read of a vertex and its track
 pub record TrackRead (g : GridStruct) (v : ℕ) (from : VertexStruct) (track : Track) : Type 0 where
   pub layer : from .layer ≡ layerOf (gridOf g) v
-  pub place : track .place ≡ trackPlace (gridOf g) v
+  pub index : track .index ≡ trackIndex (gridOf g) v
   pub length : track .length ≡ trackLength (gridOf g) v
   pub stride : track .stride ≡ strideOf (gridOf g) (layerOf (gridOf g) v)
-  pub placeFits : track .place < 256
+  pub onTrack : track .index < track .length
+  pub indexFits : track .index < 256
   pub strideFits : track .stride ≤ 256
 
 -- a number that is no move's enters nothing
@@ -90,21 +94,28 @@ either-below false hx hy = hy
 
 pub track-read : (g : GridStruct) (v : ℕ) {from : VertexStruct} {track : Track} → OnGrid g v → from ≡ vertexStruct (vertexBy (gridOf g) v)
     → track ≡ trackOf (gridOf g) (vertexOf from) → TrackRead g v from track
-unfolding trackPlace trackLength strideOf
+unfolding trackIndex trackLength strideOf
 track-read g v {from} {track} on isFrom isTrack =
     let whole : track ≡ trackOf (gridOf g) (vertexBy (gridOf g) v) = isTrack ∙ ap (λ (x : VertexStruct). trackOf (gridOf g) (vertexOf x)) isFrom in
     let b = vertex-below (gridOf g) (on .there) in
-    let place : track .place ≡ trackPlace (gridOf g) v = ap (λ (t : Track). t .place) whole in
+    let index : track .index ≡ trackIndex (gridOf g) v = ap (λ (t : Track). t .index) whole in
+    let length : track .length ≡ trackLength (gridOf g) v = ap (λ (t : Track). t .length) whole in
     let stride : track .stride ≡ strideOf (gridOf g) (layerOf (gridOf g) v) = ap (λ (t : Track). t .stride) whole in
     let columns = stepsColumn (gridOf g) (layerOf (gridOf g) v) in
     record {
       layer = ap (λ (x : VertexStruct). x .layer) isFrom;
-      place = place;
-      length = ap (λ (t : Track). t .length) whole;
+      index = index;
+      length = length;
       stride = stride;
-      placeFits = rw place (either-below columns (omega (arith, b .column, on .small .columns)) (omega (arith, b .row, on .small .rows)));
+      onTrack = rw (index, length) (index-below (gridOf g) (vertexBy (gridOf g) v) b);
+      indexFits = rw index (either-below columns (omega (arith, b .column, on .small .columns)) (omega (arith, b .row, on .small .rows)));
       strideFits = (let below = either-below columns {x = 1} {y = g .columns} {limit = 257} (omega arith) (omega (arith, on .small .columns)) in omega (arith, below, stride));
     }
+
+-- a vertex's layer, as the code has read it, is below 8
+pub layer-known : {t : TechStruct} {prices : List ℕ} {v : ℕ} {from : VertexStruct} → Here t prices v from → from .layer < 8
+layer-known {t} {v = v} h =
+    rw (h .is) (fits (t .grid) v (record { small = h .fits .sized .small; there = h .there }) .layer)
 
 -- ---- what was entered, from the code's form
 

@@ -8,7 +8,6 @@ use Prim.Native.Nat.{ℕ, _^_, _≤_, _<_}
 use mathlib.Core.Path.{_≡_, refl, sym, ap, _∙_}
 use mathlib.Core.Logic.{_⊎_, inl, inr}
 use mathlib.Core.List.{List}
-use mathlib.Core.Bool.{true, false}
 use native.Mathlib.Nat.{mul-le-mul-left}
 use native.Mathlib.Omega.{arith}
 use native.Mathlib.Decide.{decLt}
@@ -16,10 +15,10 @@ use lib.ListN.{length}
 use Rattle.job.specs.Grid.{vertices}
 use Rattle.paths.specs.Systems.{System, Lawful}
 use Rattle.paths.specs.Distances.{Cost, dist, Table, follow}
-use Rattle.paths.specs.Starts.{Choice, best, Starts, GoodStarts, startCost, Join, Ahead, byCost, Taken, joinFrom as joinAt}
+use Rattle.paths.specs.Starts.{Choice, best, Starts, GoodStarts, startCost, Join, Ahead, byCost, Foremost, joinFrom as joinAt}
 use Rattle.paths.proofs.Cheapest.{shorter, route-rival, route-cost, dist-table, follow-short}
-use Rattle.paths.proofs.Cheapest.{start-taken, start-none, ahead-total}
-use Rattle.rules.specs.Views.{View, member}
+use Rattle.paths.proofs.Cheapest.{start-foremost, start-none, ahead-total}
+use Rattle.rules.specs.Views.{View}
 use Rattle.rules.specs.Segments.{Place}
 use Rattle.rules.specs.Prices.{Tech}
 use Rattle.rules.specs.Walks.{system, startAt, Rival, Route}
@@ -96,8 +95,8 @@ module _ {t : Tech} (good : GoodTech t) (view : View) {tree unjoined : List ℕ}
         this : Join
         this = joinAt X D (places t) v c
 
-        taken : Taken S X this
-        taken = start-taken laws T starts-good e
+        taken : Foremost S X this
+        taken = start-foremost laws T starts-good e
 
     -- so the join by a table is the join
     table-is : IsJoin t view tree unjoined (joinBy t view tree unjoined D)
@@ -157,7 +156,7 @@ module _ {t : Tech} (good : GoodTech t) (view : View) {tree unjoined : List ℕ}
       by Choice.none chosen is = absurd (not-none (sym is))
       by (Choice.first v d) chosen is =
           let moves : follow S D (places t) (startAt v) ≡ ms = cc in
-          let on = start-taken laws (dist-table laws) starts-good chosen .joins .below in
+          let on = start-foremost laws (dist-table laws) starts-good chosen .joins .below in
           rw moves at (follow-short laws (dist-table laws) (places t) (start-good on))
 
   -- its number of moves and its cost fit their fields

@@ -14,7 +14,7 @@ use Rattle.job.specs.Job.{closedPrice}
 use Rattle.paths.specs.Distances.{Cost, fin, inf}
 use Rattle.rules.specs.Tracks.{Entered, outside, at, entered}
 use Rattle.rules.specs.Views.{View}
-use Rattle.rules.specs.Segments.{Direction, low, high, Segment, fresh, running, paid, paidToward, Place, Grown, back, grown}
+use Rattle.rules.specs.Segments.{Direction, low, high, Kind, along, down, up, kindOf, Segment, fresh, running, paid, paidToward, Place, Grown, back, grown}
 use Rattle.rules.specs.Prices.{Tech, entering}
 use Rattle.rules.specs.Overheads.{clear, toward, onFrom, clearRun, Overhead, nothing, lengthened, penalised, forbidden}
 use Rattle.rules.specs.Overheads.{otherwise, lengthenedBy, overheadOf}
@@ -53,7 +53,7 @@ run-free g view d (suc k) {v} h = by (entered g v (toward d)) refl (λ w on. run
 -- what an overhead lays
 laidBy : Overhead → List ℕ
 laidBy nothing = []
-laidBy (lengthened laid) = laid
+laidBy (lengthened missing laid) = laid
 laidBy penalised = []
 laidBy forbidden = []
 
@@ -80,7 +80,7 @@ module _ (t : Tech) (view : View) where
   unfolding lengthenedBy laidBy
   lengthened-free missing run else h k = by (eqb (length run) missing)
     where
-      by : (b : Bool) → AllFree (laidBy (cond b (lengthened run) else))
+      by : (b : Bool) → AllFree (laidBy (cond b (lengthened missing run) else))
       by true = h
       by false = k
 
@@ -97,7 +97,7 @@ module _ (t : Tech) (view : View) where
   leaving-free : (v w enter : ℕ) (o : Overhead) → AllFree (laidBy o) → AllFree (laidIn (leaving t v w enter o))
   unfolding leaving laidBy laidIn All
   leaving-free v w enter nothing h = h
-  leaving-free v w enter (lengthened laid) h = h
+  leaving-free v w enter (lengthened missing laid) h = h
   leaving-free v w enter penalised h = h
   leaving-free v w enter forbidden h = h
 
@@ -108,23 +108,23 @@ module _ (t : Tech) (view : View) where
   stepping-free w enter (grown s) = tt
 
   -- any move
-  segment-free : (p : Place) (m w enter : ℕ) → p .vertex < vertices (t .grid) → AllFree (laidIn (bySegment t view p m w enter))
+  segment-free : (p : Place) (k : Kind) (w enter : ℕ) → p .vertex < vertices (t .grid) → AllFree (laidIn (bySegment t view p k w enter))
   unfolding bySegment
-  segment-free p zero w enter h = stepping-free w enter _
-  segment-free p (suc zero) w enter h = stepping-free w enter _
-  segment-free p (suc (suc m)) w enter h = leaving-free (p .vertex) w enter _ (overhead-free (p .segment) h)
+  segment-free p (along d) w enter h = stepping-free w enter _
+  segment-free p down w enter h = leaving-free (p .vertex) w enter _ (overhead-free (p .segment) h)
+  segment-free p up w enter h = leaving-free (p .vertex) w enter _ (overhead-free (p .segment) h)
 
   -- every vertex that a move lays is a clear vertex of the grid
   stepped-free : (p : Place) (m : ℕ) → p .vertex < vertices (t .grid) → AllFree (laidIn (step t view p m))
   unfolding step into ifPriced laidIn All
   stepped-free p m h = by (entered (t .grid) (p .vertex) m)
     where
-      byPrice : (w : ℕ) (x : Cost) → AllFree (laidIn (ifPriced x (bySegment t view p m w)))
+      byPrice : (w : ℕ) (x : Cost) → AllFree (laidIn (ifPriced x (bySegment t view p (kindOf m) w)))
       byPrice w inf = tt
-      byPrice w (fin n) = segment-free p m w n h
+      byPrice w (fin n) = segment-free p (kindOf m) w n h
 
       byBlocked : (w : ℕ) (b : Bool)
-          → AllFree (laidIn (elim b [ true ↦ illegal | false ↦ ifPriced (entering t view (p .vertex) w m) (bySegment t view p m w) ]))
+          → AllFree (laidIn (elim b [ true ↦ illegal | false ↦ ifPriced (entering t view (p .vertex) w m) (bySegment t view p (kindOf m) w) ]))
       byBlocked w true = tt
       byBlocked w false = byPrice w (entering t view (p .vertex) w m)
 

@@ -16,7 +16,13 @@
 --     Entries        every record that routing writes is the join of what stands
 --     Fitting        numbers of a vertex that fit a word, for the code
 --     Held           what the code holds of a net's view, of layers and of prices
---     Runs           counting clear vertices on both sides of a vertex
+--     Lists          lists of numbers that are filled place by place, and the price list among them
+--     PriceLists     what a list that holds a job's prices tells
+--     Entering       a move's price and the place that it leads to, by the vertex that it enters
+--     Stepping       what the code's steps mean
+--     Rooms          walking a track by its stride
+--     Runs           counting the clear vertices beyond a vertex
+--     Owed           what the code's overheads mean
 --     Lent           the totals behind a `&mut`: the steps that the walks by hand share
 --     Certificates   a table of costs as data, shown to be a table by a test
 pub mod Vertices
@@ -37,7 +43,11 @@ pub mod Entries
 pub mod Certificates
 pub mod Fitting
 pub mod Held
+pub mod Lists
+pub mod PriceLists
+pub mod Rooms
 pub mod Runs
 pub mod Lent
 pub mod Owed
+pub mod Entering
 pub mod Stepping

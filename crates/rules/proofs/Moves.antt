@@ -4,7 +4,7 @@
 --     step-costs           a move costs at least 1
 --     step-limits          a move costs at most 197,625
 --     step-penalties       it penalises at most one segment
-use Prim.Native.Nat.{ℕ, zero, suc, _≤_}
+use Prim.Native.Nat.{ℕ, _≤_}
 use mathlib.Core.Path.{_≡_, refl}
 use mathlib.Core.Bool.{Bool, true, false}
 use native.Mathlib.Omega.{arith}
@@ -12,7 +12,7 @@ use Rattle.paths.specs.Systems.{blocked, to}
 use Rattle.paths.specs.Distances.{Cost, fin, inf}
 use Rattle.rules.specs.Tracks.{Entered, outside, at, entered}
 use Rattle.rules.specs.Views.{View}
-use Rattle.rules.specs.Segments.{Place, Grown, back, grown}
+use Rattle.rules.specs.Segments.{Kind, along, down, up, kindOf, Place, Grown, back, grown}
 use Rattle.rules.specs.Prices.{Tech, entering}
 use Rattle.rules.specs.Overheads.{Overhead, nothing, lengthened, penalised, forbidden}
 use Rattle.rules.specs.Steps.{Made, Stepped, illegal, legal, leaving, stepping, bySegment, ifPriced, into, step, priced}
@@ -30,7 +30,7 @@ pub record Went (t : Tech) (view : View) (p : Place) (m c : ℕ) (q : Place) : T
   pub enters : entered (t .grid) (p .vertex) m ≡ at vertex
   pub free : view .blocked vertex ≡ false
   pub pays : entering t view (p .vertex) vertex m ≡ fin enter
-  pub does : priced (bySegment t view p m vertex enter) ≡ to c q
+  pub does : priced (bySegment t view p (kindOf m) vertex enter) ≡ to c q
 
 -- a legal move enters a vertex that is not blocked, at a price of entering that is not closed
 pub step-parts : (t : Tech) (view : View) (p : Place) (m : ℕ) {c : ℕ} {q : Place} → priced (step t view p m) ≡ to c q → Went t view p m c q
@@ -38,12 +38,12 @@ unfolding step into ifPriced priced
 step-parts t view p m {c} {q} e = by (entered (t .grid) (p .vertex) m) refl e
   where
     byPrice : (w : ℕ) → entered (t .grid) (p .vertex) m ≡ at w → view .blocked w ≡ false → (x : Cost) → entering t view (p .vertex) w m ≡ x
-        → priced (ifPriced x (bySegment t view p m w)) ≡ to c q → Went t view p m c q
+        → priced (ifPriced x (bySegment t view p (kindOf m) w)) ≡ to c q → Went t view p m c q
     byPrice w ew ef inf ex ep = absurd (no-step ep)
     byPrice w ew ef (fin n) ex ep = record { vertex = w; enter = n; enters = ew; free = ef; pays = ex; does = ep }
 
     byBlocked : (w : ℕ) → entered (t .grid) (p .vertex) m ≡ at w → (b : Bool) → view .blocked w ≡ b
-        → priced (elim b [ true ↦ illegal | false ↦ ifPriced (entering t view (p .vertex) w m) (bySegment t view p m w) ]) ≡ to c q
+        → priced (elim b [ true ↦ illegal | false ↦ ifPriced (entering t view (p .vertex) w m) (bySegment t view p (kindOf m) w) ]) ≡ to c q
         → Went t view p m c q
     byBlocked w ew true eb ep = absurd (no-step ep)
     byBlocked w ew false eb ep = byPrice w ew eb (entering t view (p .vertex) w m) refl ep
@@ -59,7 +59,7 @@ pub step-keeps : {t : Tech} (view : View) (p : Place) (m : ℕ) {c : ℕ} {q : P
     → GoodPlace t q
 step-keeps {t} view p m good h e =
     let went = step-parts t view p m e in
-    let l = move-led view p m (went .vertex) (went .enter) good (h .vertex) (went .does) in
+    let l = move-led view p (kindOf m) (went .vertex) (went .enter) good (h .vertex) (went .does) in
     record { vertex = rw (l .vertex) (entered-below (t .grid) m (h .vertex) (went .enters)); segment = l .segment }
 
 -- a move costs from 1 to 197,625
@@ -67,7 +67,7 @@ step-fits : {t : Tech} (view : View) (p : Place) (m : ℕ) {c : ℕ} {q : Place}
     → (1 ≤ c) × (c ≤ 197625)
 step-fits {t} view p m good h e =
     let went = step-parts t view p m e in
-    let l = move-led view p m (went .vertex) (went .enter) good (h .vertex) (went .does) in
+    let l = move-led view p (kindOf m) (went .vertex) (went .enter) good (h .vertex) (went .does) in
     let enter = entering-fits view m good (h .vertex) (went .enters) (went .pays) in
     omega (arith, l .cost, l .small)
 
@@ -90,7 +90,7 @@ Few (legal made) = made .penalties ≤ 1
 leaving-few : (t : Tech) (v w enter : ℕ) (o : Overhead) → Few (leaving t v w enter o)
 unfolding Few leaving
 leaving-few t v w enter nothing = omega arith
-leaving-few t v w enter (lengthened laid) = omega arith
+leaving-few t v w enter (lengthened missing laid) = omega arith
 leaving-few t v w enter penalised = omega arith
 leaving-few t v w enter forbidden = tt
 
@@ -105,17 +105,17 @@ stepped-few : (t : Tech) (view : View) (p : Place) (m : ℕ) → Few (step t vie
 unfolding step into ifPriced bySegment Few
 stepped-few t view p m = by (entered (t .grid) (p .vertex) m)
   where
-    bySegments : (m w n : ℕ) → Few (bySegment t view p m w n)
-    bySegments zero w n = stepping-few w n _
-    bySegments (suc zero) w n = stepping-few w n _
-    bySegments (suc (suc k)) w n = leaving-few t (p .vertex) w n _
+    bySegments : (k : Kind) (w n : ℕ) → Few (bySegment t view p k w n)
+    bySegments (along d) w n = stepping-few w n _
+    bySegments down w n = leaving-few t (p .vertex) w n _
+    bySegments up w n = leaving-few t (p .vertex) w n _
 
-    byPrice : (w : ℕ) (x : Cost) → Few (ifPriced x (bySegment t view p m w))
+    byPrice : (w : ℕ) (x : Cost) → Few (ifPriced x (bySegment t view p (kindOf m) w))
     byPrice w inf = tt
-    byPrice w (fin n) = bySegments m w n
+    byPrice w (fin n) = bySegments (kindOf m) w n
 
     byBlocked : (w : ℕ) (b : Bool)
-        → Few (elim b [ true ↦ illegal | false ↦ ifPriced (entering t view (p .vertex) w m) (bySegment t view p m w) ])
+        → Few (elim b [ true ↦ illegal | false ↦ ifPriced (entering t view (p .vertex) w m) (bySegment t view p (kindOf m) w) ])
     byBlocked w true = tt
     byBlocked w false = byPrice w (entering t view (p .vertex) w m)
 

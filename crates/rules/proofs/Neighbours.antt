@@ -1,4 +1,5 @@
 -- The vertex that a move enters.
+--     index-below                              a vertex lies on its track
 --     OneHigh, low-enters, high-enters         a step: one vertex is the next high of the other
 --     enters-low, enters-high                  the other way
 --     high-vertex                              by their coordinates
@@ -14,7 +15,7 @@ use native.Mathlib.Omega.{arith}
 use borrow.Author.Tests.{ltb-true, lt-ltb}
 use Rattle.job.specs.Grid.{Grid, Vertex, vertices, vertexNumber, stepsColumn, nextHigh, strideOf}
 use Rattle.job.proofs.Grids.{Below, below-number, number-next, next-layer}
-use Rattle.rules.specs.Tracks.{layerOf, rowOf, columnOf, vertexBy, placeOn, lengthOn, trackPlace, trackLength, outside, at, ifThere, entered}
+use Rattle.rules.specs.Tracks.{layerOf, rowOf, columnOf, vertexBy, indexOn, lengthOn, trackIndex, trackLength, outside, at, ifThere, entered}
 use Rattle.rules.proofs.Vertices.{number-vertex, vertex-number, vertex-below}
 
 -- a vertex that is entered only where a test holds
@@ -31,28 +32,28 @@ pub record OneHigh (g : Grid) (v w : ℕ) : Type 0 where
   pub upper : w < vertices g
   pub number : w ≡ v + strideOf g (layerOf g v)
   pub layer : layerOf g w ≡ layerOf g v
-  pub place : trackPlace g w ≡ suc (trackPlace g v)
-  pub room : trackPlace g w < trackLength g v
+  pub index : trackIndex g w ≡ suc (trackIndex g v)
+  pub room : trackIndex g w < trackLength g v
 
 -- the next vertex high lies one further
-next-place : (g : Grid) (x : Vertex) → placeOn g (nextHigh g x) ≡ suc (placeOn g x)
+next-index : (g : Grid) (x : Vertex) → indexOn g (nextHigh g x) ≡ suc (indexOn g x)
 unfolding nextHigh
-next-place g x = by (stepsColumn g (x .layer)) refl
+next-index g x = by (stepsColumn g (x .layer)) refl
   where
-    by : (c : Bool) → stepsColumn g (x .layer) ≡ c → placeOn g (nextHigh g x) ≡ suc (placeOn g x)
+    by : (c : Bool) → stepsColumn g (x .layer) ≡ c → indexOn g (nextHigh g x) ≡ suc (indexOn g x)
     by true e = rw (e, e)
     by false e = rw (e, e)
 
 -- a vertex below the grid's sizes lies on its track
-place-below : (g : Grid) (x : Vertex) → Below g x → placeOn g x < lengthOn g (x .layer)
-place-below g x b = by (stepsColumn g (x .layer)) refl
+pub index-below : (g : Grid) (x : Vertex) → Below g x → indexOn g x < lengthOn g (x .layer)
+index-below g x b = by (stepsColumn g (x .layer)) refl
   where
-    by : (c : Bool) → stepsColumn g (x .layer) ≡ c → placeOn g x < lengthOn g (x .layer)
+    by : (c : Bool) → stepsColumn g (x .layer) ≡ c → indexOn g x < lengthOn g (x .layer)
     by true e = rw e (b .column)
     by false e = rw e (b .row)
 
 -- where the track goes on, the next vertex high is below the grid's sizes
-next-below : (g : Grid) (x : Vertex) → Below g x → suc (placeOn g x) < lengthOn g (x .layer) → Below g (nextHigh g x)
+next-below : (g : Grid) (x : Vertex) → Below g x → suc (indexOn g x) < lengthOn g (x .layer) → Below g (nextHigh g x)
 unfolding nextHigh
 next-below g x b h = by (stepsColumn g (x .layer)) refl
   where
@@ -60,10 +61,10 @@ next-below g x b h = by (stepsColumn g (x .layer)) refl
     by true e = rw e (record { layer = b .layer; row = b .row; column = rw e at h })
     by false e = rw e (record { layer = b .layer; row = rw e at h; column = b .column })
 
--- the place of a vertex on its track, from its number
-place-number : (g : Grid) (x : Vertex) → Below g x → trackPlace g (vertexNumber g x) ≡ placeOn g x
-unfolding trackPlace
-place-number g x b = ap (placeOn g) (vertex-number g x b)
+-- the index of a vertex on its track, from its number
+index-number : (g : Grid) (x : Vertex) → Below g x → trackIndex g (vertexNumber g x) ≡ indexOn g x
+unfolding trackIndex
+index-number g x b = ap (indexOn g) (vertex-number g x b)
 
 -- the layer of a vertex, from its number
 layer-number : (g : Grid) (x : Vertex) → Below g x → layerOf g (vertexNumber g x) ≡ x .layer
@@ -73,14 +74,14 @@ layer-number g x b = ap (λ (y : Vertex). y .layer) (vertex-number g x b)
 one-high : (g : Grid) (x : Vertex) → Below g x → Below g (nextHigh g x) → OneHigh g (vertexNumber g x) (vertexNumber g (nextHigh g x))
 unfolding trackLength
 one-high g x b n =
-    let on = subst (λ (l : ℕ). placeOn g (nextHigh g x) < lengthOn g l) (next-layer g x) (place-below g (nextHigh g x) n) in
+    let on = subst (λ (l : ℕ). indexOn g (nextHigh g x) < lengthOn g l) (next-layer g x) (index-below g (nextHigh g x) n) in
     record {
       lower = below-number g x b;
       upper = below-number g (nextHigh g x) n;
       number = rw layer-number (number-next g x);
       layer = layer-number g (nextHigh g x) n ∙ next-layer g x ∙ sym (layer-number g x b);
-      place = place-number g (nextHigh g x) n ∙ next-place g x ∙ ap suc (sym (place-number g x b));
-      room = rw (place-number g (nextHigh g x) n, layer-number g x b) on;
+      index = index-number g (nextHigh g x) n ∙ next-index g x ∙ ap suc (sym (index-number g x b));
+      room = rw (index-number g (nextHigh g x) n, layer-number g x b) on;
     }
 
 -- the vertex before, along its track
@@ -91,7 +92,7 @@ lowOf g x =
     (record { layer = x .layer; row = x .row - 1; column = x .column })
 
 -- a vertex that is not the first of its track is the next high of the one before
-high-low-of : (g : Grid) (x : Vertex) → 0 < placeOn g x → nextHigh g (lowOf g x) ≡ x
+high-low-of : (g : Grid) (x : Vertex) → 0 < indexOn g x → nextHigh g (lowOf g x) ≡ x
 unfolding lowOf nextHigh
 high-low-of g x h = by (stepsColumn g (x .layer)) refl
   where
@@ -116,7 +117,7 @@ low-below g x b = by (stepsColumn g (x .layer)) refl
 
 -- a step high
 pub high-enters : (g : Grid) {v w : ℕ} → v < vertices g → entered g v 1 ≡ at w → OneHigh g v w
-unfolding entered trackPlace trackLength
+unfolding entered trackIndex trackLength
 high-enters g {v} {w} h e =
     let x = vertexBy g v in
     let b = vertex-below g h in
@@ -127,7 +128,7 @@ high-enters g {v} {w} h e =
 
 -- a step low
 pub low-enters : (g : Grid) {v w : ℕ} → v < vertices g → entered g v 0 ≡ at w → OneHigh g w v
-unfolding entered trackPlace trackLength
+unfolding entered trackIndex trackLength
 low-enters g {v} {w} h e =
     let x = vertexBy g v in
     let y = lowOf g x in
@@ -143,7 +144,7 @@ low-enters g {v} {w} h e =
 -- from the lower of two to the upper
 enters-high : (g : Grid) {v w : ℕ} → OneHigh g v w → entered g v 1 ≡ at w
 unfolding entered ifThere
-enters-high g {v} {w} o = rw (lt-ltb (suc (trackPlace g v)) (trackLength g v) (omega (arith, o .place, o .room))) (ap at (sym (o .number)))
+enters-high g {v} {w} o = rw (lt-ltb (suc (trackIndex g v)) (trackLength g v) (omega (arith, o .index, o .room))) (ap at (sym (o .number)))
 
 -- from the upper of two to the lower
 enters-low : (g : Grid) {v w : ℕ} → OneHigh g v w → entered g w 0 ≡ at v
@@ -151,14 +152,14 @@ unfolding entered ifThere
 enters-low g {v} {w} o =
     let stride = ap (strideOf g) (o .layer) in
     let number : w - strideOf g (layerOf g w) ≡ v = omega (arith, o .number, stride) in
-    rw (lt-ltb 0 (trackPlace g w) (omega (arith, o .place))) (ap at number)
+    rw (lt-ltb 0 (trackIndex g w) (omega (arith, o .index))) (ap at number)
 
 -- by their coordinates
 pub high-vertex : (g : Grid) {v w : ℕ} → OneHigh g v w → vertexBy g w ≡ nextHigh g (vertexBy g v)
-unfolding trackPlace trackLength
+unfolding trackIndex trackLength
 high-vertex g {v} {w} o =
     let x = vertexBy g v in
-    let n = next-below g x (vertex-below g (o .lower)) (rw (o .place) at (o .room)) in
+    let n = next-below g x (vertex-below g (o .lower)) (rw (o .index) at (o .room)) in
     let next : vertexNumber g (nextHigh g x) ≡ w = omega (arith, number-next g x, number-vertex g v, o .number) in
     ap (vertexBy g) (sym next) ∙ vertex-number g (nextHigh g x) n
 

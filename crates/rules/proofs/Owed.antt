@@ -1,28 +1,37 @@
--- What the code's overheads and steps mean.
---     toward-below, run-count                the count of a side
---     clear-all, clear-some                  a run is lengthened where as many are clear as are missing
---     fresh-high, fresh-low, fresh-neither   the overhead of a fresh segment
---     running-clear, running-unclear         of a running one
---     few-added                              an extension has few vertices
-use Prim.Native.Nat.{ℕ, zero, suc, _-_, _*_, _≤_, _<_}
-use mathlib.Core.Path.{_≡_, refl, sym, ap, subst, _∙_}
+-- What the code's overheads mean.
+--     owed-as                        what is owed, by another name of it
+--     side-untried, side-unclear     a side is passed: not tried, or not as many are clear as are missing
+--     side-whole                     as many are clear: the extension
+--     sides-done                     no side is left: the area penalty
+--     both-sides, only-side          the sides of a fresh segment, and of a running one
+use Prim.Native.Nat.{ℕ, zero, suc, _-_, _≤_, _<_}
+use mathlib.Core.Path.{_≡_, refl, sym, _∙_}
 use mathlib.Core.List.{List}
+use mathlib.Core.Bool.{Bool, true, false, cond}
 use native.Mathlib.Omega.{arith}
-use lib.ListN.{length, getD}
+use lib.ListN.{length}
 use borrow.Author.Tests.{eq-eqb, ne-eqb}
 use Rattle.job.specs.Grid.{Grid}
+use Rattle.job.specs.Structs.{layerStruct}
+use Rattle.job.specs.declared.groups.Layer.{Layer as LayerStruct}
 use Rattle.rules.specs.Views.{View}
-use Rattle.rules.specs.Segments.{Direction, low, high, Segment, fresh, running}
+use Rattle.rules.specs.Segments.{Direction, against, fresh, running}
 use Rattle.rules.specs.Prices.{Tech, lineOf}
-use Rattle.rules.specs.Overheads.{toward, clearRun, Overhead, lengthened, otherwise, lengthenedBy, overheadOf}
-use Rattle.rules.specs.Structs.{directionOf, runsOf, techBy, TechFits, overheadBy, WholeOverhead, FewAdded, IsOverhead, IsOverheadAnywhere}
+use Rattle.rules.specs.Overheads.{clearRun, Overhead, lengthened, otherwise, lengthenedBy, overheadOf}
+use Rattle.rules.specs.Structs.{directionOf, laidBy, overheadBy, sideBy, triesOn, onSide, fromSide, FewMissing, WholeOverhead, IsOverhead}
 use Rattle.rules.specs.declared.segment.Direction.{Direction as DirectionEnum}
 use Rattle.rules.specs.declared.segment.Direction.the-variants.{Low, High}
+use Rattle.rules.specs.declared.overhead.Sides.{Sides}
+use Rattle.rules.specs.declared.overhead.Sides.the-variants.{Both, Only}
 use Rattle.rules.specs.declared.overhead.Overhead.{Overhead as OverheadEnum}
-use Rattle.rules.specs.declared.overhead.Overhead.the-variants.{Nothing, Lengthened, Penalised, Forbidden}
+use Rattle.rules.specs.declared.overhead.Overhead.the-variants.{Lengthened}
+
+-- what is owed by one name is owed by an equal one
+pub owed-as : {g : Grid} {view : View} {v : ℕ} {r : OverheadEnum} {o p : Overhead} → IsOverhead g view v r o → o ≡ p → IsOverhead g view v r p
+owed-as owed e = record { same = owed .same ∙ e; few = owed .few; whole = owed .whole }
 
 -- as many are clear as are missing
-clear-all : (missing : ℕ) (run : List ℕ) (else : Overhead) → length run ≡ missing → lengthenedBy missing run else ≡ lengthened run
+clear-all : (missing : ℕ) (run : List ℕ) (else : Overhead) → length run ≡ missing → lengthenedBy missing run else ≡ lengthened missing run
 unfolding lengthenedBy
 clear-all missing run else e = rw (eq-eqb (length run) missing e) refl
 
@@ -31,65 +40,62 @@ clear-some : (missing : ℕ) (run : List ℕ) (else : Overhead) → (length run 
 unfolding lengthenedBy
 clear-some missing run else ne = rw (ne-eqb (length run) missing ne) refl
 
--- a step's number is 0 or 1
-pub toward-below : (d : DirectionEnum) → toward (directionOf d) < 2
-unfolding toward directionOf
-toward-below Low = omega arith
-toward-below High = omega arith
+module _ (g : Grid) (view : View) (v missing area : ℕ) (sides : Sides) where
+  -- what is left to try from a side on
+  abbrev left : (side : ℕ) → Overhead
+  left side = fromSide g view v missing area sides side
 
--- a side's count, by the number of its move, is the length of its run
-pub run-count : (g : Grid) (view : View) (d : Direction) (most v : ℕ) {side : ℕ} {runs : List ℕ} → side ≡ toward d → runs ≡ runsOf g view most v
-    → getD runs side 0 ≡ length (clearRun g view d most v)
-unfolding runsOf toward
-run-count g view low most v s e = rw (s, e) refl
-run-count g view high most v s e = rw (s, e) refl
+  -- with its side apart
+  side-apart : (side : ℕ) → side < 2 → left side ≡ onSide g view v missing sides (sideBy side) (left (suc side))
+  unfolding fromSide sideBy
+  side-apart zero h = refl
+  side-apart (suc zero) h = refl
+  side-apart (suc (suc n)) h = absurd (omega (arith, h))
 
-module _ (t : Tech) (view : View) (v : ℕ) where
-  -- how many clear vertices lie on a side
-  abbrev runOf : Direction → (most : ℕ) → ℕ
-  runOf d most = length (clearRun (t .grid) view d most v)
+  module _ {side : ℕ} {d : Direction} (h : side < 2) (is : d ≡ sideBy side) where
+    -- a side that is not tried is passed
+    pub side-untried : triesOn sides d ≡ false → left side ≡ left (suc side)
+    unfolding onSide
+    side-untried untried = side-apart side h ∙ rw (← is, untried) refl
 
-  abbrev Owes : Segment → OverheadEnum → Type 0
-  Owes s r = IsOverhead (t .grid) view v r (overheadOf t view v s)
+    -- one on which not as many are clear as are missing is passed
+    pub side-unclear : (length (clearRun g view d missing v) ≡ missing → ⊥) → left side ≡ left (suc side)
+    unfolding onSide
+    side-unclear unclear = side-apart side h ∙ rw (← is) (by (triesOn sides d))
+      where
+        by : (b : Bool) → cond b (lengthenedBy missing (clearRun g view d missing v) (left (suc side))) (left (suc side)) ≡ left (suc side)
+        by true = clear-some missing _ _ unclear
+        by false = refl
 
-  module _ {least : ℕ} (is : least ≡ lineOf t v .minLength) (few : least < 16) where
-    -- high of a fresh segment there is room
-    pub fresh-high : runOf high least ≡ least → Owes fresh (Lengthened High least)
-    unfolding overheadOf overheadBy WholeOverhead directionOf
-    fresh-high e = record { same = rw (← is) (sym (clear-all least _ _ e)); whole = record { few = few; clear = e } }
+    -- one on which as many are clear is what is owed
+    side-clear : triesOn sides d ≡ true → length (clearRun g view d missing v) ≡ missing → left side ≡ lengthened missing (clearRun g view d missing v)
+    unfolding onSide
+    side-clear tried whole = side-apart side h ∙ rw (← is, tried) (clear-all missing _ _ whole)
 
-    -- else low of it
-    pub fresh-low : (runOf high least ≡ least → ⊥) → runOf low least ≡ least → Owes fresh (Lengthened Low least)
-    unfolding overheadOf overheadBy WholeOverhead directionOf
-    fresh-low ne e =
-        record { same = rw (← is) (sym (clear-some least _ _ ne ∙ clear-all least _ _ e)); whole = record { few = few; clear = e } }
+  -- a side that is tried, with as many clear vertices as are missing, is the extension
+  pub side-whole : {side : ℕ} (toward : DirectionEnum) → side < 2 → directionOf toward ≡ sideBy side → triesOn sides (directionOf toward) ≡ true
+      → length (clearRun g view (directionOf toward) missing v) ≡ missing → missing < 16
+      → IsOverhead g view v (Lengthened missing (record { toward = toward; count = missing })) (left side)
+  unfolding overheadBy laidBy FewMissing WholeOverhead
+  side-whole toward h is tried whole few =
+      record { same = sym (side-clear h is tried whole); few = few; whole = record { few = few; clear = whole } }
 
-    -- else on neither side
-    pub fresh-neither : {r : OverheadEnum} {area : ℕ} → (runOf high least ≡ least → ⊥) → (runOf low least ≡ least → ⊥)
-        → area ≡ lineOf t v .area → IsOverheadAnywhere r (otherwise area) → Owes fresh r
-    unfolding overheadOf
-    fresh-neither no-high no-low a o =
-        let here = o (t .grid) view v in
-        record { same = here .same ∙ rw (← is, a) (sym (clear-some least _ _ no-high ∙ clear-some least _ _ no-low)); whole = here .whole }
+  -- with no side left it is the area penalty
+  pub sides-done : (side : ℕ) → 2 ≤ side → left side ≡ otherwise area
+  unfolding fromSide
+  sides-done zero h = absurd (omega (arith, h))
+  sides-done (suc zero) h = absurd (omega (arith, h))
+  sides-done (suc (suc n)) h = refl
 
-  module _ (d : DirectionEnum) (n : ℕ) {missing : ℕ} (is : missing ≡ lineOf t v .minLength - n) where
-    -- a running segment has room
-    pub running-clear : missing < 16 → runOf (directionOf d) missing ≡ missing → Owes (running (directionOf d) n) (Lengthened d missing)
-    unfolding overheadOf overheadBy WholeOverhead
-    running-clear few e = record { same = rw (← is) (sym (clear-all missing _ _ e)); whole = record { few = few; clear = e } }
+module _ (t : Tech) (view : View) (v : ℕ) {line : LayerStruct} (is : line ≡ layerStruct (lineOf t v)) where
+  -- a fresh segment tries both sides
+  pub both-sides : fromSide (t .grid) view v (line .least) (line .area) Both 0 ≡ overheadOf t view v fresh
+  unfolding fromSide onSide triesOn overheadOf
+  both-sides = rw is refl
 
-    -- it has not
-    pub running-unclear : {r : OverheadEnum} {area : ℕ} → (runOf (directionOf d) missing ≡ missing → ⊥)
-        → area ≡ lineOf t v .area → IsOverheadAnywhere r (otherwise area) → Owes (running (directionOf d) n) r
-    unfolding overheadOf
-    running-unclear ne a o =
-        let here = o (t .grid) view v in
-        record { same = here .same ∙ rw (← is, a) (sym (clear-some missing _ _ ne)); whole = here .whole }
-
--- an extension that is clear throughout has few vertices
-pub few-added : (g : Grid) (view : View) (v : ℕ) (r : OverheadEnum) → WholeOverhead g view v r → FewAdded r
-unfolding WholeOverhead FewAdded
-few-added g view v Nothing whole = tt
-few-added g view v (Lengthened d n) whole = whole .few
-few-added g view v Penalised whole = tt
-few-added g view v Forbidden whole = tt
+  -- a running one tries its direction
+  pub only-side : (d : DirectionEnum) (n : ℕ) {missing : ℕ} → missing ≡ line .least - n
+      → fromSide (t .grid) view v missing (line .area) (Only d) 0 ≡ overheadOf t view v (running (directionOf d) n)
+  unfolding fromSide onSide triesOn overheadOf against directionOf
+  only-side Low n isMissing = rw (isMissing, is) refl
+  only-side High n isMissing = rw (isMissing, is) refl

@@ -12,6 +12,7 @@ use Rattle.job.specs.Grid.{vertices}
 use Rattle.job.specs.Job.{closedPrice}
 use Rattle.paths.specs.Distances.{Cost, fin, inf, plus}
 use Rattle.rules.specs.Tracks.{outside, at, entered}
+use Rattle.rules.specs.Segments.{kindOf}
 use Rattle.rules.specs.Views.{View}
 use Rattle.rules.specs.Prices.{Tech, charge, penalty, base, guideAt, shortAt, sumCost, entering}
 use Rattle.rules.specs.Places.{GoodTech}
@@ -50,7 +51,7 @@ with-penalties b inf y {n} hx hy e = let z : _≡_ {A = ℕ} 0 1 = cc in omega a
 -- the wire price or the via price is from 1 to 1,023
 base-fits : {t : Tech} {v w : ℕ} (m : ℕ) → GoodTech t → v < vertices (t .grid) → entered (t .grid) v m ≡ at w
     → (1 ≤ base t v w m) × (base t v w m ≤ 1023)
-unfolding base entered
+unfolding base kindOf entered
 base-fits {t} zero good h e = let line = line-good good (low-enters (t .grid) h e .lower) in (line .someWire, omega (arith, line .wire))
 base-fits {t} (suc zero) good h e = let line = line-good good (high-enters (t .grid) h e .upper) in (line .someWire, omega (arith, line .wire))
 base-fits {t} (suc (suc zero)) good h e =

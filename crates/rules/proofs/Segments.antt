@@ -3,7 +3,8 @@
 --     grow-good     a step makes a good segment
 --     Led           the next place, and an overhead of at most 65,534
 --     move-led      what any legal move makes of the segment
-use Prim.Native.Nat.{ℕ, zero, suc, _+_, _-_, _≤_, _<_}
+--     owed-fits     what a via owes is at most 65,534
+use Prim.Native.Nat.{ℕ, suc, _+_, _*_, _-_, _≤_, _<_}
 use mathlib.Core.Path.{_≡_, refl, sym, ap, subst}
 use mathlib.Core.List.{List}
 use mathlib.Core.Bool.{Bool, true, false, cond}
@@ -11,15 +12,19 @@ use native.Mathlib.Nat.{mul-le-mul, le-trans}
 use native.Mathlib.Omega.{arith}
 use lib.ListN.{length}
 use lib.Dec.{eqb, leb}
-use borrow.Author.Tests.{leb-false, eqb-true, eqb-false}
+use borrow.Author.Tests.{leb-false, eqb-false}
 use Rattle.job.specs.Grid.{vertices}
 use Rattle.job.specs.Job.{Layer, largestMinLength, closedPrice}
 use Rattle.paths.specs.Systems.{blocked, to}
+use Rattle.paths.specs.Distances.{fin}
+use Rattle.paths.proofs.Costs.{inf-not-fin}
+use Rattle.paths.proofs.OnBest.{same-fin}
 use Rattle.rules.specs.Views.{View}
-use Rattle.rules.specs.Segments.{Direction, low, high, Segment, fresh, running, paid, paidToward, Place}
-use Rattle.rules.specs.Segments.{ofLength, Grown, back, grown, alongOnly, grow}
+use Rattle.rules.specs.Segments.{Direction, Segment, fresh, running, paid, paidToward, Place}
+use Rattle.rules.specs.Segments.{Kind, along, down, up, against, ofLength, Grown, back, grown, notAgainst, grow}
 use Rattle.rules.specs.Prices.{Tech, lineOf}
 use Rattle.rules.specs.Overheads.{Overhead, nothing, lengthened, penalised, forbidden, otherwise, lengthenedBy, overheadOf}
+use Rattle.rules.specs.Structs.{leavingCost, owedCost}
 use Rattle.rules.specs.Steps.{leaving, stepping, bySegment, priced}
 use Rattle.rules.specs.Places.{GoodSegment, GoodTech}
 use Rattle.rules.proofs.Techs.{least-largest, line-good}
@@ -54,13 +59,14 @@ same-good : (largest : ℕ) (s : Segment) {s′ : Segment} → GoodSegment large
 same-good largest s h e = subst (GoodSegment largest) (cc) h
 
 -- a segment that goes on along its direction
-along-good : (largest : ℕ) (was now : Direction) (s : Segment) {s′ : Segment} → GoodSegment largest s → alongOnly was now s ≡ grown s′
+along-good : (largest : ℕ) (was now : Direction) (s : Segment) {s′ : Segment} → GoodSegment largest s → notAgainst was now s ≡ grown s′
     → GoodSegment largest s′
-unfolding alongOnly
-along-good largest low low s h e = same-good largest s h e
-along-good largest high high s h e = same-good largest s h e
-along-good largest low high s h e = absurd (no-growth e)
-along-good largest high low s h e = absurd (no-growth e)
+unfolding notAgainst
+along-good largest was now s {s′} h e = by (against was now) e
+  where
+    by : (b : Bool) → cond b back (grown s) ≡ grown s′ → GoodSegment largest s′
+    by true e = absurd (no-growth e)
+    by false e = same-good largest s h e
 
 -- a step makes a good segment
 grow-good : (largest least : ℕ) (d : Direction) (s : Segment) {s′ : Segment} → least ≤ largest → grow least d s ≡ grown s′ → GoodSegment largest s′
@@ -74,7 +80,7 @@ grow-good largest least d (paidToward was) h e = along-good largest was d (paidT
 -- an overhead that is not closed, by the layer line of the vertex that is left
 OverFits : Layer → Overhead → Type 0
 OverFits line nothing = Unit
-OverFits line (lengthened laid) = length laid ≤ 15
+OverFits line (lengthened missing laid) = missing ≤ 15
 OverFits line penalised = line .area ≤ 65534
 OverFits line forbidden = Unit
 
@@ -93,8 +99,8 @@ lengthened-fits : (line : Layer) (missing : ℕ) (run : List ℕ) (else : Overhe
 unfolding OverFits lengthenedBy
 lengthened-fits line missing run else h r = by (eqb (length run) missing) refl
   where
-    by : (b : Bool) → eqb (length run) missing ≡ b → OverFits line (cond b (lengthened run) else)
-    by true e = omega (arith, eqb-true (length run) missing e)
+    by : (b : Bool) → eqb (length run) missing ≡ b → OverFits line (cond b (lengthened missing run) else)
+    by true e = h
     by false e = r
 
 -- what a via move owes for a segment
@@ -134,17 +140,38 @@ leaving-led : (t : Tech) (v w enter : ℕ) (o : Overhead) {c : ℕ} {q : Place} 
     → priced (leaving t v w enter o) ≡ to c q → Led t w enter c q
 unfolding leaving priced OverFits GoodSegment
 leaving-led t v w enter nothing h f e = led t w enter 0 fresh tt (omega arith) e
-leaving-led t v w enter (lengthened laid) h f e = led t w enter _ fresh tt (le-trans (mul-le-mul h f) (omega arith)) e
+leaving-led t v w enter (lengthened missing laid) h f e = led t w enter _ fresh tt (le-trans (mul-le-mul h f) (omega arith)) e
 leaving-led t v w enter penalised h f e = led t w enter _ fresh tt f e
 leaving-led t v w enter forbidden h f e = absurd (no-step e)
 
--- any move
-pub move-led : {t : Tech} (view : View) (p : Place) (m w enter : ℕ) {c : ℕ} {q : Place} → GoodTech t → p .vertex < vertices (t .grid)
-    → priced (bySegment t view p m w enter) ≡ to c q → Led t w enter c q
-unfolding bySegment
-move-led {t} view p zero w enter good h e = stepping-led t w enter _ low (p .segment) (least-largest t (p .vertex)) e
-move-led {t} view p (suc zero) w enter good h e = stepping-led t w enter _ high (p .segment) (least-largest t (p .vertex)) e
-move-led {t} view p (suc (suc m)) w enter good h e =
+-- a via move out of a good place
+via-led : {t : Tech} (view : View) (p : Place) (w enter : ℕ) {c : ℕ} {q : Place} → GoodTech t → p .vertex < vertices (t .grid)
+    → priced (leaving t (p .vertex) w enter (overheadOf t view (p .vertex) (p .segment))) ≡ to c q → Led t w enter c q
+via-led {t} view p w enter good h e =
     let line = line-good good h in
     leaving-led t (p .vertex) w enter (overheadOf t view (p .vertex) (p .segment)) (omega (arith, line .wire))
     (overhead-fits t view (p .vertex) (p .segment) (omega (arith, line .minLength)) (line .area)) e
+
+-- any move
+pub move-led : {t : Tech} (view : View) (p : Place) (k : Kind) (w enter : ℕ) {c : ℕ} {q : Place} → GoodTech t → p .vertex < vertices (t .grid)
+    → priced (bySegment t view p k w enter) ≡ to c q → Led t w enter c q
+unfolding bySegment
+move-led {t} view p (along d) w enter good h e = stepping-led t w enter _ d (p .segment) (least-largest t (p .vertex)) e
+move-led {t} view p down w enter good h e = via-led view p w enter good h e
+move-led {t} view p up w enter good h e = via-led view p w enter good h e
+
+-- what a via owes, where it is not forbidden
+pub owed-fits : {t : Tech} (view : View) (p : Place) {n : ℕ} → GoodTech t → p .vertex < vertices (t .grid) → owedCost t view p ≡ fin n → n ≤ 65534
+unfolding owedCost leavingCost OverFits
+owed-fits {t} view p {n} good h e =
+    let line = line-good good h in
+    by (overheadOf t view (p .vertex) (p .segment)) (omega (arith, line .wire))
+    (overhead-fits t view (p .vertex) (p .segment) (omega (arith, line .minLength)) (line .area)) e
+  where
+    by : (o : Overhead) → lineOf t (p .vertex) .wire ≤ 1023 → OverFits (lineOf t (p .vertex)) o → leavingCost t (p .vertex) o ≡ fin n → n ≤ 65534
+    by nothing w f is = omega (arith, same-fin refl is)
+    by (lengthened missing laid) w f is =
+        let price : lineOf t (p .vertex) .wire * missing ≡ n = same-fin refl is in
+        rw (← price) (le-trans (mul-le-mul w f) (omega arith))
+    by penalised w f is = omega (arith, same-fin refl is, f)
+    by forbidden w f is = absurd (inf-not-fin is)

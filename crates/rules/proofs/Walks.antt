@@ -15,7 +15,7 @@ use Rattle.job.specs.Grid.{Grid, vertices}
 use Rattle.paths.specs.Systems.{to}
 use Rattle.paths.specs.Rivals.{Route as RouteFrom}
 use Rattle.rules.specs.Views.{View, member}
-use Rattle.rules.specs.Segments.{Place}
+use Rattle.rules.specs.Segments.{kindOf, Place}
 use Rattle.rules.specs.Prices.{Tech}
 use Rattle.rules.specs.Steps.{Made, Stepped, illegal, legal, step, priced}
 use Rattle.rules.specs.Walks.{system, startAt, Route, Walked, stuck, walked, Sum, nothingYet, withMade, after, goOn, walk}
@@ -50,7 +50,7 @@ step-passed : {t : Tech} (view : View) (p : Place) (m : ℕ) {c : ℕ} {q : Plac
     → Passed (t .grid) view (q .vertex)
 step-passed {t} view p m {q = q} good h e =
     let went = step-parts t view p m e in
-    let l = move-led view p m (went .vertex) (went .enter) good (h .vertex) (went .does) in
+    let l = move-led view p (kindOf m) (went .vertex) (went .enter) good (h .vertex) (went .does) in
     record { onGrid = step-keeps view p m good h e .vertex; unblocked = rw (l .vertex) (went .free) }
 
 -- a legal move, then the rest

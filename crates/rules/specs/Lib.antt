@@ -11,4 +11,6 @@ pub mod Places
 pub mod Routings
 pub mod Maps
 pub mod Seen
+pub mod PriceLists
 pub mod Structs
+pub mod Lists

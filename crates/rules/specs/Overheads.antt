@@ -34,7 +34,7 @@ clearRun g view d (suc k) v = onFrom view (clearRun g view d k) (entered g v (to
 
 pub data Overhead : Type 0 where
   nothing : Overhead
-  lengthened : (laid : List ℕ) → Overhead
+  lengthened : (missing : ℕ) (laid : List ℕ) → Overhead
   penalised : Overhead
   forbidden : Overhead
 
@@ -44,7 +44,7 @@ otherwise area = cond (eqb area closedPrice) forbidden penalised
 
 -- "If M − n are clear .. these vertices become metal of the net."
 unfoldable pub lengthenedBy : (missing : ℕ) → (run : List ℕ) → Overhead → Overhead
-lengthenedBy missing run else = cond (eqb (length run) missing) (lengthened run) else
+lengthenedBy missing run else = cond (eqb (length run) missing) (lengthened missing run) else
 
 -- "A via move out of a segment of length n < M also costs overhead." "A fresh segment tries high, then low." A segment in a direction
 -- tries that.

@@ -7,11 +7,12 @@ use Prim.Native.Nat.{ℕ}
 use mathlib.Core.List.{List}
 use mathlib.Core.Bool.{Bool, cond, not}
 use lib.ListN.{getD}
-use lib.Dec.{eqb, ltb}
+use lib.Dec.{eqb}
 use Rattle.job.specs.Grid.{Grid}
 use Rattle.job.specs.Job.{Layer, Job, closedPrice}
 use Rattle.paths.specs.Distances.{Cost, fin, inf, plus}
 use Rattle.rules.specs.Tracks.{layerOf}
+use Rattle.rules.specs.Segments.{along, down, up, kindOf}
 use Rattle.rules.specs.Views.{View}
 
 pub record Tech : Type 0 where
@@ -36,7 +37,7 @@ penalty applies p = cond applies (charge p) (fin 0)
 
 -- "the wire price of its layer, or the via price": a via between two layers is priced by the lower one's line
 unfoldable pub base : Tech → (from into move : ℕ) → ℕ
-base t from into move = cond (ltb move 2) (lineOf t into .wire) (cond (eqb move 2) (lineOf t into .via) (lineOf t from .via))
+base t from into move = elim (kindOf move) [ along d ↦ lineOf t into .wire | down ↦ lineOf t into .via | up ↦ lineOf t from .via ]
 
 -- "plus the guide penalty if v lies in none of the net's boxes"
 unfoldable pub guideAt : Tech → View → (v : ℕ) → Cost

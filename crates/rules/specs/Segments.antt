@@ -1,11 +1,31 @@
--- The segment that is being made, and a place: a vertex with its segment.
-use Prim.Native.Nat.{ℕ, suc}
-use mathlib.Core.Bool.{Bool, cond}
+-- Directions and the kinds of moves; the segment that is being made, and a place: a vertex with its segment.
+use Prim.Native.Nat.{ℕ, zero, suc}
+use mathlib.Core.Bool.{Bool, true, false, cond}
 use lib.Dec.{leb}
 
 -- a step along the track goes low or high
 pub data Direction : Type 0 where
   low high : Direction
+
+-- what a move does: a step along the track in a direction, or a via to the layer below or above
+pub data Kind : Type 0 where
+  along : Direction → Kind
+  down up : Kind
+
+-- "A move's number decides what it changes: 0 low and 1 high step along the layer's track, 2 goes down a layer, 3 up." A greater number is no
+-- move's: it enters nothing.
+unfoldable pub kindOf : (move : ℕ) → Kind
+kindOf zero = along low
+kindOf (suc zero) = along high
+kindOf (suc (suc zero)) = down
+kindOf (suc (suc (suc m))) = up
+
+-- whether a step is against the one before it
+unfoldable pub against : (was now : Direction) → Bool
+against low low = false
+against low high = true
+against high low = true
+against high high = false
 
 -- "At each moment a segment is fresh, running low or high, or paid." A paid segment has a direction once it has made a step.
 pub data Segment : Type 0 where
@@ -28,15 +48,12 @@ pub data Grown : Type 0 where
   grown : Segment → Grown
 
 -- "no step goes back against the direction"
-unfoldable pub alongOnly : (was now : Direction) → Segment → Grown
-alongOnly low low s = grown s
-alongOnly low high s = back
-alongOnly high low s = back
-alongOnly high high s = grown s
+unfoldable pub notAgainst : (was now : Direction) → Segment → Grown
+notAgainst was now s = cond (against was now) back (grown s)
 
 -- "Running: a step adds 1 to the length." "A join starts paid with no direction; its first step gives one."
 unfoldable pub grow : (least : ℕ) → Direction → Segment → Grown
 grow least d fresh = grown (ofLength least d 1)
-grow least d (running was n) = alongOnly was d (ofLength least d (suc n))
+grow least d (running was n) = notAgainst was d (ofLength least d (suc n))
 grow least d paid = grown (paidToward d)
-grow least d (paidToward was) = alongOnly was d (paidToward d)
+grow least d (paidToward was) = notAgainst was d (paidToward d)

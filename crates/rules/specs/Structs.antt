@@ -1,23 +1,25 @@
 -- The forms in which the code holds vertices and moves.
-use Prim.Native.Nat.{ℕ, zero, suc, _<_}
+use Prim.Native.Nat.{ℕ, zero, suc, _+_, _-_, _*_, _<_}
 use mathlib.Core.Path.{_≡_}
 use mathlib.Core.List.{List, [], _∷_}
+use mathlib.Core.Bool.{Bool, true, false, not, cond}
 use lib.ListN.{length, getD}
 use Rattle.job.specs.Grid.{Grid, Vertex, vertices, strideOf}
-use Rattle.job.specs.Job.{Layer}
-use Rattle.job.specs.Structs.{Small, Sized, gridOf}
+use Rattle.job.specs.Job.{Layer, largestMinLength}
+use Rattle.job.specs.Structs.{Small, Sized, gridOf, vertexStruct}
+use Rattle.paths.specs.Systems.{Step, blocked, to}
 use Rattle.paths.specs.Distances.{Cost, fin, inf}
-use Rattle.rules.specs.Prices.{Tech}
+use Rattle.rules.specs.Prices.{Tech, lineOf, entering}
 use Rattle.rules.specs.Places.{GoodTech}
 use Rattle.job.specs.declared.groups.Layer.{Layer as LayerStruct}
 use Rattle.job.specs.declared.layers.Layers.{Layers}
 use Rattle.job.specs.declared.penalty.Penalty.{Penalty}
 use Rattle.job.specs.declared.penalty.Penalty.the-variants.{Closed, Price}
 use Rattle.rules.specs.declared.price.Tech.{Tech as TechStruct}
-use Rattle.rules.specs.Tracks.{placeOn, lengthOn, Entered, outside, at}
+use Rattle.rules.specs.Tracks.{vertexBy, indexOn, lengthOn, Entered, outside, at, entered}
 use Rattle.rules.specs.Views.{View}
-use Rattle.rules.specs.Segments.{Direction, low, high, Segment, fresh, running, paid, paidToward, Place, Grown, back, grown}
-use Rattle.rules.specs.Overheads.{clearRun, Overhead, nothing, lengthened, penalised, forbidden}
+use Rattle.rules.specs.Segments.{Direction, low, high, Kind, along, down, up, against, Segment, fresh, running, paid, paidToward, Place, Grown, back, grown}
+use Rattle.rules.specs.Overheads.{clearRun, Overhead, nothing, lengthened, penalised, forbidden, otherwise, lengthenedBy, overheadOf}
 use Rattle.rules.specs.declared.segment.Direction.{Direction as DirectionEnum}
 use Rattle.rules.specs.declared.segment.Direction.the-variants.{Low, High}
 use Rattle.rules.specs.declared.segment.Segment.{Segment as SegmentEnum}
@@ -27,14 +29,24 @@ use Rattle.rules.specs.declared.segment.Grown.the-variants as Grow
 use Rattle.rules.specs.Steps.{Made, Stepped, illegal, legal}
 use Rattle.rules.specs.declared.step.Place.{Place as PlaceStruct}
 use Rattle.rules.specs.declared.step.Made.{Made as MadeStruct}
+use Rattle.rules.specs.declared.step.Entry.{Entry}
+use Rattle.rules.specs.declared.step.Entry.the-variants.{Shut, Open}
 use Rattle.rules.specs.declared.step.Stepped.{Stepped as SteppedEnum}
 use Rattle.rules.specs.declared.step.Stepped.the-variants.{Illegal, Legal}
+use Rattle.rules.specs.declared.track.Kind.{Kind as KindEnum}
+use Rattle.rules.specs.declared.track.Kind.the-variants.{Along, Down, Up}
+use Rattle.rules.specs.declared.overhead.Extension.{Extension as ExtensionStruct}
+use Rattle.rules.specs.declared.overhead.Sides.{Sides as SidesEnum}
+use Rattle.rules.specs.declared.overhead.Sides.the-variants.{Both, Only}
 use Rattle.rules.specs.declared.overhead.Overhead.{Overhead as OverheadEnum}
 use Rattle.rules.specs.declared.overhead.Overhead.the-variants.{Nothing, Lengthened, Penalised, Forbidden}
 use Rattle.rules.specs.declared.track.Entered.{Entered as EnteredEnum}
 use Rattle.rules.specs.declared.track.Entered.the-variants.{Outside, At}
 use Rattle.rules.specs.declared.track.Track.{Track}
 use Rattle.job.specs.declared.grid.Grid.{Grid as GridStruct}
+use Rattle.job.specs.declared.grid.Vertex.{Vertex as VertexStruct}
+use Rattle.rules.specs.Seen.{viewBy}
+use Rattle.rules.specs.PriceLists.{Priced}
 
 -- a vertex of a small grid
 pub record OnGrid (g : GridStruct) (v : ℕ) : Type 0 where
@@ -49,16 +61,31 @@ enteredOf (at w) = At w
 abbrev pub trackOf : Grid → Vertex → Track
 trackOf g v =
     record {
-      place = placeOn g v;
+      index = indexOn g v;
       length = lengthOn g (v .layer);
       stride = strideOf g (v .layer);
     }
+
+-- how many steps a track goes on in a direction
+unfoldable pub roomIn : Track → Direction → ℕ
+roomIn t low = t .index
+roomIn t high = t .length - 1 - t .index
+
+-- the next vertex in a direction
+unfoldable pub nextOn : (stride : ℕ) → Direction → (v : ℕ) → ℕ
+nextOn stride low v = v - stride
+nextOn stride high v = v + stride
 
 -- ---- segments
 
 unfoldable pub directionOf : DirectionEnum → Direction
 directionOf Low = low
 directionOf High = high
+
+unfoldable pub kindBy : KindEnum → Kind
+kindBy (Along d) = along (directionOf d)
+kindBy Down = down
+kindBy Up = up
 
 unfoldable pub segmentOf : SegmentEnum → Segment
 segmentOf Fresh = fresh
@@ -79,6 +106,7 @@ Short (PaidToward d) = Unit
 
 -- ---- prices
 
+-- the line of a layer in the four lists
 unfoldable pub lineAt : Layers → (layer : ℕ) → LayerStruct
 lineAt ls k = record { wire = getD (ls .wire) k 0; via = getD (ls .via) k 0; least = getD (ls .least) k 0; area = getD (ls .area) k 0 }
 
@@ -97,6 +125,11 @@ techBy t = record { grid = gridOf (t .grid); lines = linesFrom (t .layers) 0 (t 
 pub record TechFits (t : TechStruct) : Type 0 where
   pub sized : Sized (t .grid)
   pub good : GoodTech (techBy t)
+  pub largest : t .largest ≡ largestMinLength (techBy t .lines)
+
+-- what the net at hand sees, by the bytes that the code holds
+abbrev pub seenBy : TechStruct → (seen : List ℕ) → View
+seenBy t seen = viewBy (gridOf (t .grid)) seen
 
 -- a closed price forbids
 unfoldable pub costOf : Penalty → Cost
@@ -105,47 +138,105 @@ costOf (Price n) = fin n
 
 -- ---- overhead
 
--- how many clear vertices lie low and high of a vertex, at most so many
-unfoldable pub runsOf : Grid → View → (most v : ℕ) → List ℕ
-runsOf g view most v = length (clearRun g view low most v) ∷ length (clearRun g view high most v) ∷ []
+-- the vertices of an extension beyond one: as many of the clear run
+unfoldable pub laidBy : Grid → View → (v : ℕ) → ExtensionStruct → List ℕ
+laidBy g view v e = clearRun g view (directionOf (e .toward)) (e .count) v
 
--- a direction and a number of vertices in the place of an extension: it is as many of the clear run
+-- they are all clear, and fewer than 16
+pub record Whole (g : Grid) (view : View) (v : ℕ) (e : ExtensionStruct) : Type 0 where
+  pub few : e .count < 16
+  pub clear : length (laidBy g view v e) ≡ e .count
+
+-- no vertex
+unfoldable pub noExtension : ExtensionStruct
+noExtension = record { toward = High; count = 0 }
+
 unfoldable pub overheadBy : Grid → View → (v : ℕ) → OverheadEnum → Overhead
 overheadBy g view v Nothing = nothing
-overheadBy g view v (Lengthened d n) = lengthened (clearRun g view (directionOf d) n v)
+overheadBy g view v (Lengthened n e) = lengthened n (laidBy g view v e)
 overheadBy g view v Penalised = penalised
 overheadBy g view v Forbidden = forbidden
 
--- all of the vertices that an extension names are clear, and they are fewer than 16
-pub record Whole (g : Grid) (view : View) (v : ℕ) (d : DirectionEnum) (n : ℕ) : Type 0 where
-  pub few : n < 16
-  pub clear : length (clearRun g view (directionOf d) n v) ≡ n
+-- the sides in the order in which they are tried: high, then low
+unfoldable pub sideBy : ℕ → Direction
+sideBy zero = high
+sideBy (suc n) = low
+
+-- whether a side is tried
+unfoldable pub triesOn : SidesEnum → Direction → Bool
+triesOn Both d = true
+triesOn (Only e) d = not (against (directionOf e) d)
+
+-- an extension on a side, where it is tried and as many vertices are clear as are missing
+unfoldable pub onSide : Grid → View → (v missing : ℕ) → SidesEnum → Direction → Overhead → Overhead
+onSide g view v missing sides d else = cond (triesOn sides d) (lengthenedBy missing (clearRun g view d missing v) else) else
+
+-- the sides from one on are left to try, then the area penalty
+unfoldable pub fromSide : Grid → View → (v missing area : ℕ) → SidesEnum → (side : ℕ) → Overhead
+fromSide g view v missing area sides zero = onSide g view v missing sides high (onSide g view v missing sides low (otherwise area))
+fromSide g view v missing area sides (suc zero) = onSide g view v missing sides low (otherwise area)
+fromSide g view v missing area sides (suc (suc n)) = otherwise area
+
+-- fewer than 16 steps are missing
+unfoldable pub FewMissing : OverheadEnum → Type 0
+FewMissing Nothing = Unit
+FewMissing (Lengthened n e) = n < 16
+FewMissing Penalised = Unit
+FewMissing Forbidden = Unit
 
 unfoldable pub WholeOverhead : Grid → View → (v : ℕ) → OverheadEnum → Type 0
 WholeOverhead g view v Nothing = Unit
-WholeOverhead g view v (Lengthened d n) = Whole g view v d n
+WholeOverhead g view v (Lengthened n e) = Whole g view v e
 WholeOverhead g view v Penalised = Unit
 WholeOverhead g view v Forbidden = Unit
 
--- an extension has fewer than 16 vertices
-unfoldable pub FewAdded : OverheadEnum → Type 0
-FewAdded Nothing = Unit
-FewAdded (Lengthened d n) = n < 16
-FewAdded Penalised = Unit
-FewAdded Forbidden = Unit
-
 pub record IsOverhead (g : Grid) (view : View) (v : ℕ) (r : OverheadEnum) (o : Overhead) : Type 0 where
   pub same : overheadBy g view v r ≡ o
+  pub few : FewMissing r
   pub whole : WholeOverhead g view v r
 
 -- one that lays nothing is the same wherever it is asked
 abbrev pub IsOverheadAnywhere : OverheadEnum → Overhead → Type 0
 IsOverheadAnywhere r o = (g : Grid) (view : View) (v : ℕ) → IsOverhead g view v r o
 
+-- what an overhead costs, by the layer line of the vertex that is left
+unfoldable pub overheadCost : LayerStruct → OverheadEnum → Cost
+overheadCost line Nothing = fin 0
+overheadCost line (Lengthened n e) = fin (line .wire * n)
+overheadCost line Penalised = fin (line .area)
+overheadCost line Forbidden = inf
+
+-- the same of the definition's, for a via out of a place
+unfoldable pub leavingCost : Tech → (v : ℕ) → Overhead → Cost
+leavingCost t v nothing = fin 0
+leavingCost t v (lengthened missing laid) = fin (lineOf t v .wire * missing)
+leavingCost t v penalised = fin (lineOf t v .area)
+leavingCost t v forbidden = inf
+
+unfoldable pub owedCost : Tech → View → Place → Cost
+owedCost t view p = leavingCost t (p .vertex) (overheadOf t view (p .vertex) (p .segment))
+
+-- a via to a vertex at a price of entering, with what it owes
+unfoldable pub byOwed : (w enter : ℕ) → Cost → Step Place
+byOwed w enter inf = blocked
+byOwed w enter (fin over) = to (enter + over) (record { vertex = w; segment = fresh })
+
 -- ---- steps
 
 abbrev pub placeOf : PlaceStruct → Place
 placeOf p = record { vertex = p .vertex; segment = segmentOf (p .segment) }
+
+-- the vertex that a move enters with the price of entering it, or that it enters none
+unfoldable pub entryBy : (into : ℕ) → Cost → Entry
+entryBy w inf = Shut
+entryBy w (fin enter) = Open w enter
+
+unfoldable pub entryAt : Tech → View → (v move : ℕ) → Entered → Entry
+entryAt t view v m outside = Shut
+entryAt t view v m (at w) = elim (view .blocked w) [ true ↦ Shut | false ↦ entryBy w (entering t view v w m) ]
+
+unfoldable pub entryOf : Tech → View → (v move : ℕ) → Entry
+entryOf t view v m = entryAt t view v m (entered (t .grid) v m)
 
 unfoldable pub madeBy : Grid → View → (v : ℕ) → MadeStruct → Made
 madeBy g view v m =
@@ -153,7 +244,8 @@ madeBy g view v m =
       next = placeOf (m .next);
       enter = m .enter;
       over = m .over;
-      laid = clearRun g view (directionOf (m .toward)) (m .added) v;
+      laid = laidBy g view v (m .extension);
+      added = m .added;
       penalties = m .penalties;
     }
 
@@ -161,9 +253,14 @@ unfoldable pub steppedBy : Grid → View → (v : ℕ) → SteppedEnum → Stepp
 steppedBy g view v Illegal = illegal
 steppedBy g view v (Legal m) = legal (madeBy g view v m)
 
+-- the vertices of a move's extension are all clear, and few steps were missing
+pub record WholeMade (g : Grid) (view : View) (v : ℕ) (m : MadeStruct) : Type 0 where
+  pub few : m .added < 16
+  pub whole : Whole g view v (m .extension)
+
 unfoldable pub WholeStep : Grid → View → (v : ℕ) → SteppedEnum → Type 0
 WholeStep g view v Illegal = Unit
-WholeStep g view v (Legal m) = Whole g view v (m .toward) (m .added)
+WholeStep g view v (Legal m) = WholeMade g view v m
 
 pub record IsStepped (g : Grid) (view : View) (v : ℕ) (r : SteppedEnum) (s : Stepped) : Type 0 where
   pub same : steppedBy g view v r ≡ s
@@ -174,13 +271,20 @@ abbrev pub IsSteppedAnywhere : SteppedEnum → Stepped → Type 0
 IsSteppedAnywhere r s = (g : Grid) (view : View) (v : ℕ) → IsStepped g view v r s
 
 -- a via move, with what it owes
-unfoldable pub byVia : (into enter over : ℕ) → DirectionEnum → (added penalties : ℕ) → SteppedEnum
-byVia into enter over toward added penalties =
+unfoldable pub byVia : (into enter over : ℕ) → ExtensionStruct → (added penalties : ℕ) → SteppedEnum
+byVia into enter over extension added penalties =
     Legal (record {
       next = record { vertex = into; segment = Fresh };
       enter = enter;
       over = over;
-      toward = toward;
+      extension = extension;
       added = added;
       penalties = penalties;
     })
+
+-- what a step asks: good layers with their price list, and a vertex of the grid with its coordinates
+pub record Here (t : TechStruct) (prices : List ℕ) (v : ℕ) (from : VertexStruct) : Type 0 where
+  pub fits : TechFits t
+  pub priced : Priced (techBy t) prices
+  pub there : v < vertices (gridOf (t .grid))
+  pub is : from ≡ vertexStruct (vertexBy (gridOf (t .grid)) v)

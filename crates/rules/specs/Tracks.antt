@@ -1,7 +1,7 @@
 -- Vertices by number, and the vertex that a move enters.
 --     layerOf, rowOf, columnOf, vertexBy     a vertex taken apart
---     placeOn, lengthOn                      where on its track a vertex lies, and how long the track is
---     trackPlace, trackLength                the same by its number
+--     indexOn, lengthOn                      where on its track a vertex lies, and how long the track is
+--     trackIndex, trackLength                the same by its number
 --     entered                                the vertex that a move enters, if it stays in the grid
 use Prim.Native.Nat.{ℕ, zero, suc, _+_, _-_, _*_, _/_, _%_}
 use mathlib.Core.Bool.{Bool, cond}
@@ -23,16 +23,16 @@ abbrev pub vertexBy : Grid → ℕ → Vertex
 vertexBy g v = record { layer = layerOf g v; row = rowOf g v; column = columnOf g v }
 
 -- a step on the vertex's layer changes this, its column or its row
-abbrev pub placeOn : Grid → Vertex → ℕ
-placeOn g x = cond (stepsColumn g (x .layer)) (x .column) (x .row)
+abbrev pub indexOn : Grid → Vertex → ℕ
+indexOn g x = cond (stepsColumn g (x .layer)) (x .column) (x .row)
 
 -- how long a layer's tracks are
 abbrev pub lengthOn : Grid → (layer : ℕ) → ℕ
 lengthOn g layer = cond (stepsColumn g layer) (g .columns) (g .rows)
 
 -- the same by the vertex's number
-unfoldable pub trackPlace : Grid → ℕ → ℕ
-trackPlace g v = placeOn g (vertexBy g v)
+unfoldable pub trackIndex : Grid → ℕ → ℕ
+trackIndex g v = indexOn g (vertexBy g v)
 
 unfoldable pub trackLength : Grid → ℕ → ℕ
 trackLength g v = lengthOn g (layerOf g v)
@@ -47,8 +47,8 @@ ifThere there v = cond there (at v) outside
 
 -- "A move's number decides what it changes: 0 low and 1 high step along the layer's track, 2 goes down a layer, 3 up. It stays in the grid."
 unfoldable pub entered : Grid → (v move : ℕ) → Entered
-entered g v zero = ifThere (ltb 0 (trackPlace g v)) (v - strideOf g (layerOf g v))
-entered g v (suc zero) = ifThere (ltb (suc (trackPlace g v)) (trackLength g v)) (v + strideOf g (layerOf g v))
+entered g v zero = ifThere (ltb 0 (trackIndex g v)) (v - strideOf g (layerOf g v))
+entered g v (suc zero) = ifThere (ltb (suc (trackIndex g v)) (trackLength g v)) (v + strideOf g (layerOf g v))
 entered g v (suc (suc zero)) = ifThere (ltb 0 (layerOf g v)) (v - g .rows * g .columns)
 entered g v (suc (suc (suc zero))) = ifThere (ltb (suc (layerOf g v)) (g .layers)) (v + g .rows * g .columns)
 entered g v (suc (suc (suc (suc m)))) = outside

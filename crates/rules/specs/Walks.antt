@@ -6,7 +6,6 @@ use Prim.Native.Nat.{ℕ, _+_}
 use mathlib.Core.Path.{_≡_}
 use mathlib.Core.List.{List, [], _∷_, _++_}
 use mathlib.Core.Bool.{true}
-use lib.ListN.{length}
 use Rattle.paths.specs.Systems.{System}
 use Rattle.paths.specs.Rivals.{Rival as RivalFrom, Route as RouteFrom}
 use Rattle.rules.specs.Views.{View, member}
@@ -61,7 +60,7 @@ withMade made sum =
       vertices = made .next .vertex ∷ sum .vertices;
       laid = made .laid ++ sum .laid;
       cost = made .enter + made .over + sum .cost;
-      added = length (made .laid) + sum .added;
+      added = made .added + sum .added;
       penalties = made .penalties + sum .penalties;
     }
 

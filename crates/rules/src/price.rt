@@ -1,90 +1,80 @@
-// The price of entering a vertex, in its parts.
+// The price list of a job, and the price of entering a vertex in its parts.
 ghost use mathlib.Core.Path.{_≡_};
 ghost use Prim.Native.Nat.{_<_};
-ghost use Rattle.job.specs.Grid.{vertices};
-ghost use Rattle.job.specs.Structs.{gridOf, layerStruct};
-ghost use Rattle.rules.specs.Prices.{lineOf, penalty, base, entering};
-ghost use Rattle.rules.specs.Seen.{viewBy};
-ghost use Rattle.rules.specs.Structs.{TechFits, lineAt, techBy, costOf};
-use crate::seen::OUTSIDE;
-use crate::seen::TAKEN;
-use crate::seen::has;
-use crate::track::vertex_by;
+ghost use Rattle.rules.specs.Segments.{down};
+ghost use Rattle.rules.specs.Joins.{places};
+ghost use Rattle.rules.specs.Structs.{TechFits, techBy, costOf, kindBy};
+ghost use Rattle.rules.specs.declared.price.Tech.{Tech as TechStruct};
+ghost use Rattle.rules.specs.PriceLists.{lineIn, extraIn, baseIn, SmallExtra};
+use crate::track::Kind;
 use job::grid::Grid;
 use job::groups::Layer;
 use job::layers::Layers;
 use job::penalty::Penalty;
 
-// What a job says of its layers: the grid, the layer lines and the fields of the two penalties.
+// What a job says of its layers: the grid, the layer lines with the largest M, and the fields of the two penalties.
 pub struct Tech {
     pub grid: Grid,
     pub layers: Layers,
+    pub largest: usize,
     pub guide: usize,
     pub short: usize,
 }
 
-// Each list is copied before it is read at a number that is not known: apart, so that a caller pays only for the fields that it reads.
-pub fn line_at(layers: Layers, layer: usize) -> Layer
+impl Tech {
+    // How many places a search has: for each vertex two directions and every length up to the largest M.
+    pub fn places(self) -> usize
+        requires { ⌜ TechFits self ⌝ }
+        ensures { λ r. ⌜ r ≡ places (techBy self) ⌝ }
+    {
+        places_on(self.grid, self.largest)
+    }
+}
+
+// The same, by what it depends on: a loop need not copy the rest.
+pub fn places_on(grid: Grid, largest: usize) -> usize
+    requires { ⌜ ((tech : TechStruct) × TechFits tech × (tech .grid ≡ grid) × (tech .largest ≡ largest)) ⌝ }
+    ensures { λ r. ⌜ ((tech : TechStruct) → TechFits tech → tech .grid ≡ grid → tech .largest ≡ largest → r ≡ places (techBy tech)) ⌝ }
+{
+    grid.vertices() * 2 * (largest + 1)
+}
+
+// The layer line of a layer.
+pub fn line_at(prices: &[usize; 48], layer: usize) -> Layer
     requires { ⌜ layer < 8 ⌝ }
-    ensures { λ r. ⌜ r ≡ lineAt layers layer ⌝ }
+    ensures { λ r. ⌜ r ≡ lineIn (now (prices .entry)) layer ⌝ }
 {
-    let wires = layers.wire;
-    let vias = layers.via;
-    let leasts = layers.least;
-    let areas = layers.area;
     Layer {
-        wire: wires[layer],
-        via: vias[layer],
-        least: leasts[layer],
-        area: areas[layer],
+        wire: prices[layer * 4],
+        via: prices[layer * 4 + 1],
+        least: prices[layer * 4 + 2],
+        area: prices[layer * 4 + 3],
     }
 }
 
-// The layer line of a vertex.
-pub fn line_of(tech: Tech, v: usize) -> Layer
-    requires { ⌜ (TechFits tech) × (v < vertices (gridOf (tech .grid))) ⌝ }
-    ensures { λ r. ⌜ r ≡ layerStruct (lineOf (techBy tech) v) ⌝ }
+// The wire price of the layer, or the price of the via, which the line of the lower of its two layers holds.
+pub fn base_price(prices: &[usize; 48], layer: usize, kind: Kind) -> usize
+    requires { ⌜ (layer < 8) × (kindBy kind ≡ down → 0 < layer) ⌝ }
+    ensures { λ r. ⌜ r ≡ baseIn (now (prices .entry)) layer (kindBy kind) ⌝ }
 {
-    let vertex = vertex_by(tech.grid, v);
-    let layers = tech.layers;
-    line_at(layers, vertex.layer)
-}
-
-// A penalty where it applies; the closed one forbids.
-pub fn penalty_if(applies: bool, field: usize) -> Penalty
-    ensures { λ r. ⌜ costOf r ≡ penalty applies field ⌝ }
-{
-    if applies {
-        Penalty::from_field(field)
-    } else {
-        Penalty::Price(0)
+    match kind {
+        Kind::Along(_direction) => prices[layer * 4],
+        Kind::Down => prices[(layer - 1) * 4 + 1],
+        Kind::Up => prices[layer * 4 + 1],
     }
 }
 
-// The wire price of the entered layer, or the price of the via, which the lower layer's line holds.
-pub fn base_price(tech: Tech, from: usize, into: usize, number: usize) -> usize
-    requires { ⌜ (TechFits tech) × (from < vertices (gridOf (tech .grid))) × (into < vertices (gridOf (tech .grid))) ⌝ }
-    ensures { λ r. ⌜ r ≡ base (techBy tech) from into number ⌝ }
+// What a vertex's byte of flags adds to that: the guide penalty and the short penalty, closed where either is.
+pub fn extra_of(prices: &[usize; 48], byte: u8) -> Penalty
+    requires { ⌜ SmallExtra (now prices) byte ⌝ }
+    ensures { λ r. ⌜ costOf r ≡ extraIn (now (prices .entry)) byte ⌝ }
 {
-    if number < 2 {
-        return line_of(tech, into).wire;
-    }
-    if number == 2 {
-        return line_of(tech, into).via;
-    }
-    line_of(tech, from).via
-}
-
-// The base with both penalties; closed where either of these is.
-pub fn entering(tech: Tech, seen: &[u8; 16384], from: usize, into: usize, number: usize) -> Penalty
-    requires { ⌜ (TechFits tech) × (from < vertices (gridOf (tech .grid))) × (into < vertices (gridOf (tech .grid))) ⌝ }
-    ensures { λ r. ⌜ costOf r ≡ entering (techBy tech) (viewBy (gridOf (tech .grid)) (now (seen .entry))) from into number ⌝ }
-{
-    let Penalty::Price(guide) = penalty_if(has(seen, into, OUTSIDE), tech.guide) else {
+    let first = 32 + 2 * (byte % 8) as usize;
+    let Penalty::Price(guide) = Penalty::from_field(prices[first]) else {
         return Penalty::Closed;
     };
-    let Penalty::Price(short) = penalty_if(has(seen, into, TAKEN), tech.short) else {
+    let Penalty::Price(short) = Penalty::from_field(prices[first + 1]) else {
         return Penalty::Closed;
     };
-    Penalty::Price(base_price(tech, from, into, number) + guide + short)
+    Penalty::Price(guide + short)
 }

@@ -1,6 +1,6 @@
 // The segment that is being made.
 ghost use mathlib.Core.Path.{_≡_};
-ghost use Rattle.rules.specs.Segments.{ofLength, alongOnly, grow};
+ghost use Rattle.rules.specs.Segments.{ofLength, against, notAgainst, grow};
 ghost use Rattle.rules.specs.Overheads.{toward};
 ghost use Rattle.rules.specs.Structs.{Short, directionOf, segmentOf, grownOf};
 
@@ -44,19 +44,30 @@ pub fn of_length(least: usize, direction: Direction, length: usize) -> Segment
     }
 }
 
-// No step goes back against the direction.
-fn along_only(was: Direction, now: Direction, segment: Segment) -> Grown
-    ensures { λ r. ⌜ grownOf r ≡ alongOnly (directionOf was) (directionOf now) (segmentOf segment) ⌝ }
+// Whether a direction is against another.
+pub fn against(was: Direction, now: Direction) -> bool
+    ensures { λ r. ⌜ r ≡ against (directionOf was) (directionOf now) ⌝ }
 {
     match was {
         Direction::Low => match now {
-            Direction::Low => Grown::To(segment),
-            Direction::High => Grown::Back,
+            Direction::Low => false,
+            Direction::High => true,
         },
         Direction::High => match now {
-            Direction::Low => Grown::Back,
-            Direction::High => Grown::To(segment),
+            Direction::Low => true,
+            Direction::High => false,
         },
+    }
+}
+
+// No step goes back against the one before it.
+fn not_against(was: Direction, now: Direction, segment: Segment) -> Grown
+    ensures { λ r. ⌜ grownOf r ≡ notAgainst (directionOf was) (directionOf now) (segmentOf segment) ⌝ }
+{
+    if against(was, now) {
+        Grown::Back
+    } else {
+        Grown::To(segment)
     }
 }
 
@@ -68,9 +79,9 @@ pub fn grow(least: usize, direction: Direction, segment: Segment) -> Grown
     match segment {
         Segment::Fresh => Grown::To(of_length(least, direction, 1)),
         Segment::Running(was, length) => {
-            along_only(was, direction, of_length(least, direction, length + 1))
+            not_against(was, direction, of_length(least, direction, length + 1))
         }
         Segment::Paid => Grown::To(Segment::PaidToward(direction)),
-        Segment::PaidToward(was) => along_only(was, direction, Segment::PaidToward(direction)),
+        Segment::PaidToward(was) => not_against(was, direction, Segment::PaidToward(direction)),
     }
 }

@@ -1,10 +1,12 @@
-// Vertices by number, and the vertex that a move enters.
+// Vertices by number, what a move's number asks, and the vertex that it enters.
 ghost use mathlib.Core.Path.{_≡_};
 ghost use Prim.Native.Nat.{_<_, _≤_, _+_, _-_, _^_};
 ghost use mathlib.Core.Bool.{true};
 ghost use Rattle.job.specs.Structs.{Small, gridOf, vertexOf, vertexStruct};
 ghost use Rattle.rules.specs.Tracks.{vertexBy, ifThere, entered};
-ghost use Rattle.rules.specs.Structs.{OnGrid, enteredOf, trackOf};
+ghost use Rattle.rules.specs.Segments.{low, kindOf};
+ghost use Rattle.rules.specs.Structs.{OnGrid, enteredOf, trackOf, directionOf, kindBy, roomIn, nextOn};
+use crate::segment::Direction;
 use job::grid::Grid;
 use job::grid::Vertex;
 
@@ -13,9 +15,9 @@ pub enum Entered {
     At(usize),
 }
 
-// A vertex's place on its track, how long the track is, and what a step high adds to the vertex's number.
+// Where a vertex lies on its track, how long the track is, and what a step high adds to the vertex's number.
 pub struct Track {
-    pub place: usize,
+    pub index: usize,
     pub length: usize,
     pub stride: usize,
 }
@@ -37,12 +39,12 @@ pub fn track_of(grid: Grid, vertex: Vertex) -> Track
 {
     match grid.steps_column(vertex.layer) {
         true => Track {
-            place: vertex.column,
+            index: vertex.column,
             length: grid.columns,
             stride: 1,
         },
         false => Track {
-            place: vertex.row,
+            index: vertex.row,
             length: grid.rows,
             stride: grid.columns,
         },
@@ -72,19 +74,59 @@ fn higher(there: bool, v: usize, by: usize) -> Entered
     }
 }
 
-// The vertex that a move enters: 0 low and 1 high step along the layer's track, 2 goes down a layer, 3 up.
-pub fn entered_by(grid: Grid, v: usize, number: usize) -> Entered
-    requires { ⌜ OnGrid grid v ⌝ }
+// What a move does: a step along the track in a direction, or a via to the layer below or above.
+pub enum Kind {
+    Along(Direction),
+    Down,
+    Up,
+}
+
+// 0 low and 1 high step along the layer's track, 2 goes down a layer, 3 up. A greater number is no move's: it enters nothing.
+pub fn kind_of(number: usize) -> Kind
+    ensures { λ r. ⌜ kindBy r ≡ kindOf number ⌝ }
+{
+    match number {
+        0 => Kind::Along(Direction::Low),
+        1 => Kind::Along(Direction::High),
+        2 => Kind::Down,
+        _ => Kind::Up,
+    }
+}
+
+// The vertex that a move enters, from a vertex with its coordinates: the move's number and the layer's direction decide what changes.
+pub fn entered_by(grid: Grid, v: usize, from: Vertex, number: usize) -> Entered
+    requires { ⌜ (OnGrid grid v) × (from ≡ vertexStruct (vertexBy (gridOf grid) v)) ⌝ }
     ensures { λ r. ⌜ r ≡ enteredOf (entered (gridOf grid) v number) ⌝ }
 {
-    let from = vertex_by(grid, v);
     let track = track_of(grid, from);
     let level = grid.rows * grid.columns;
     match number {
-        0 => lower(0 < track.place, v, track.stride),
-        1 => higher(track.place + 1 < track.length, v, track.stride),
+        0 => lower(0 < track.index, v, track.stride),
+        1 => higher(track.index + 1 < track.length, v, track.stride),
         2 => lower(0 < from.layer, v, level),
         3 => higher(from.layer + 1 < grid.layers, v, level),
         _ => Entered::Outside,
+    }
+}
+
+// How many steps the track goes on in a direction.
+pub fn room_toward(track: Track, toward: Direction) -> usize
+    requires { ⌜ track .index < track .length ⌝ }
+    ensures { λ r. ⌜ r ≡ roomIn track (directionOf toward) ⌝ }
+{
+    match toward {
+        Direction::Low => track.index,
+        Direction::High => track.length - 1 - track.index,
+    }
+}
+
+// The next vertex in a direction, where the track goes on.
+pub fn next_toward(stride: usize, toward: Direction, v: usize) -> usize
+    requires { ⌜ (v < 2 ^ 32) × (stride < 2 ^ 32) × (directionOf toward ≡ low → stride ≤ v) ⌝ }
+    ensures { λ r. ⌜ r ≡ nextOn stride (directionOf toward) v ⌝ }
+{
+    match toward {
+        Direction::Low => v - stride,
+        Direction::High => v + stride,
     }
 }

@@ -1,5 +1,15 @@
--- The join that a search from the tree tells.
---     Traces     the best start, and the route from there
---     Joined     what a record leaves, as the code answers it
-pub mod Traces
-pub mod Joined
+-- The search from the tree, as the code holds it in the work slice.
+--     Fronts     what the entries tell: the cost to each place, the marks
+--     Lists      how the slice is laid out: entries, heap, settled places
+--     Bits       a byte with a bit for each move
+--     Spreads    what the entries have come to while places are settled
+--     Tries      one move that is tried from a settled place
+--     Leads      the moves of cheapest joins, and the marks
+--     Charts     the slice before a search, and after one that found an unjoined pin
+pub mod Fronts
+pub mod Lists
+pub mod Bits
+pub mod Spreads
+pub mod Tries
+pub mod Leads
+pub mod Charts

@@ -1,6 +1,12 @@
-// The join that a search from the tree tells: its moves are counted, written into the plan and walked.
-pub mod join;
-pub mod next;
-pub mod record;
-pub mod trace;
-pub mod write;
+// The search from the tree: places are settled in the order of their cost with what is left at least, until no open one is below the cheapest
+// goal found; then the places of cheapest joins are marked.
+pub mod clear;
+pub mod lead;
+pub mod mark;
+pub mod moves;
+pub mod places;
+pub mod reach;
+pub mod seed;
+pub mod settle;
+pub mod settled;
+pub mod tries;

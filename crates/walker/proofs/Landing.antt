@@ -18,14 +18,14 @@ use Rattle.rules.specs.Prices.{Tech}
 use Rattle.rules.specs.Places.{GoodTech, GoodPlace}
 use Rattle.rules.specs.Steps.{Made, legal, step, priced}
 use Rattle.rules.specs.Walks.{nothingYet, startAt}
-use Rattle.rules.specs.Structs.{directionOf, segmentOf, TechFits, techBy, placeOf, madeBy, Whole}
+use Rattle.rules.specs.Structs.{directionOf, segmentOf, TechFits, techBy, placeOf, laidBy, madeBy, WholeMade}
 use Rattle.rules.specs.declared.price.Tech.{Tech as TechStruct}
 use Rattle.rules.specs.declared.step.Place.{Place as PlaceStruct}
 use Rattle.rules.specs.declared.step.Made.{Made as MadeStruct}
 use Rattle.rules.proofs.Places.{start-good}
 use Rattle.rules.proofs.Laid.{Free, step-free}
 use Rattle.rules.proofs.Moves.{step-keeps, step-limits, step-penalties}
-use Rattle.metal.specs.Codes.{layAll, beyond}
+use Rattle.metal.specs.Codes.{layAll, extended}
 use Rattle.metal.proofs.Runs.{beyond-clear}
 use Rattle.walker.specs.Entering.{enterBy, Gone, goneAt, thenMade, goneOn}
 use Rattle.walker.specs.Structs.{IsWalk, walkFrom, walkOn, WalkFits}
@@ -66,7 +66,7 @@ pub record MovesMade (tech : TechStruct) (n : ℕ) (walk : Walk) (gone : Gone) :
 
 module _ (tech : TechStruct) (view : View) (p : PlaceStruct) (number : ℕ) (m : MadeStruct)
     (is : step (techBy tech) view (placeOf p) number ≡ legal (madeBy (gridOf (tech .grid)) view (p .vertex) m))
-    (whole : Whole (gridOf (tech .grid)) view (p .vertex) (m .toward) (m .added)) where
+    (whole : WholeMade (gridOf (tech .grid)) view (p .vertex) m) where
   -- it leads to a good place, and its numbers are small
   pub made-fits : TechFits tech → GoodPlace (techBy tech) (placeOf p) → MoveFits tech m
   unfolding madeBy priced
@@ -80,11 +80,11 @@ module _ (tech : TechStruct) (view : View) (p : PlaceStruct) (number : ℕ) (m :
 
   -- what the code leaves in the arrays is what the definition's move leaves
   pub made-entered : (net : ℕ) (spots codes : List ℕ) {more after : List ℕ} → more ≡ set spots (m .next .vertex) 1
-      → after ≡ layAll net (beyond (gridOf (tech .grid)) (directionOf (m .toward)) (m .added) (p .vertex) ++ (m .next .vertex ∷ [])) codes
+      → after ≡ layAll net (extended (gridOf (tech .grid)) (p .vertex) (m .extension) ++ (m .next .vertex ∷ [])) codes
       → enterBy net (madeBy (gridOf (tech .grid)) view (p .vertex) m) (record { spots = spots; codes = codes }) ≡ record { spots = more; codes = after }
-  unfolding madeBy enterBy
+  unfolding madeBy enterBy extended laidBy
   made-entered net spots codes {more} {after} marked laid =
-      let run = beyond-clear (gridOf (tech .grid)) view (directionOf (m .toward)) (m .added) (p .vertex) (whole .clear) in
+      let run = beyond-clear (gridOf (tech .grid)) view (directionOf (m .extension .toward)) (m .extension .count) (p .vertex) (whole .whole .clear) in
       let codes-after = sym (laid ∙ ap (λ (vs : List ℕ). layAll net (vs ++ (m .next .vertex ∷ [])) codes) run) in
       λ i. record { spots = sym marked i; codes = codes-after i }
 
@@ -102,16 +102,14 @@ made-none tech start on =
 
 -- of one more
 pub made-one : (tech : TechStruct) (view : View) {n : ℕ} {walk : Walk} {gone : Gone} (m : MadeStruct) → MovesMade tech n walk gone → MoveFits tech m
-    → Whole (gridOf (tech .grid)) view (walk .place .vertex) (m .toward) (m .added)
     → MovesMade tech (suc n) (walkOn walk m) (goneOn gone (madeBy (gridOf (tech .grid)) view (walk .place .vertex) m))
 unfolding madeBy goneOn thenMade walkOn
-made-one tech view {n} m so-far new whole =
-    let long = whole .clear in
+made-one tech view {n} m so-far new =
     record {
       is = record {
         place = refl;
         cost = ap (λ (c : ℕ). c + (m .enter + m .over)) (so-far .is .cost);
-        added = omega (arith, so-far .is .added, long);
+        added = ap (λ (c : ℕ). c + m .added) (so-far .is .added);
         penalties = ap (λ (c : ℕ). c + m .penalties) (so-far .is .penalties);
       };
       place = new .place;

@@ -6,7 +6,6 @@ use Prim.Native.Nat.{_+_}
 use mathlib.Core.Path.{_≡_}
 use mathlib.Core.List.{[], _∷_, _++_, append-assoc, append-nil}
 use native.Mathlib.Omega.{arith}
-use lib.ListN.{length}
 use Rattle.rules.specs.Steps.{Made}
 use Rattle.rules.specs.Walks.{Sum, nothingYet, withMade}
 use Rattle.walker.specs.Entering.{thenMade}
@@ -27,7 +26,7 @@ pub then-sum : (a : Sum) (made : Made) (b : Sum) → plusSum (thenMade a made) b
 unfolding plusSum thenMade withMade
 then-sum a made b =
     let cost : a .cost + (made .enter + made .over) + b .cost ≡ a .cost + (made .enter + made .over + b .cost) = omega arith in
-    let added : a .added + length (made .laid) + b .added ≡ a .added + (length (made .laid) + b .added) = omega arith in
+    let added : a .added + made .added + b .added ≡ a .added + (made .added + b .added) = omega arith in
     let penalties : a .penalties + made .penalties + b .penalties ≡ a .penalties + (made .penalties + b .penalties) = omega arith in
     λ i. record {
       vertices = append-assoc (a .vertices) (made .next .vertex ∷ []) (b .vertices) i;

@@ -5,7 +5,7 @@
 --     leftIn                the arrays that it leaves
 use Prim.Native.Nat.{ℕ, _+_}
 use mathlib.Core.List.{List, [], _∷_, _++_}
-use lib.ListN.{length, set}
+use lib.ListN.{set}
 use Rattle.rules.specs.Views.{View}
 use Rattle.rules.specs.Segments.{Place}
 use Rattle.rules.specs.Prices.{Tech}
@@ -40,7 +40,7 @@ thenMade sum made =
       vertices = sum .vertices ++ (made .next .vertex ∷ []);
       laid = sum .laid ++ made .laid;
       cost = sum .cost + (made .enter + made .over);
-      added = sum .added + length (made .laid);
+      added = sum .added + made .added;
       penalties = sum .penalties + made .penalties;
     }
 

@@ -1,16 +1,16 @@
-// Walking a join's moves: what each enters becomes metal and tree, and their cost is counted. Replay and routing share it.
+// Walking a join's moves: what each enters becomes metal and tree, and their cost is counted. Replay and
+// routing share it.
 ghost use mathlib.Core.Path.{_≡_};
 ghost use mathlib.Core.List.{[], _∷_, _++_};
 ghost use Prim.Native.Nat.{_<_, _≤_, _^_};
 ghost use lib.ListN.{length, set};
 ghost use Rattle.job.specs.Grid.{vertices};
 ghost use Rattle.job.specs.Structs.{Sized, gridOf};
-ghost use Rattle.rules.specs.Structs.{directionOf};
-ghost use Rattle.metal.specs.Codes.{layAll, beyond};
+ghost use Rattle.metal.specs.Codes.{layAll, extended};
 ghost use Rattle.walker.specs.Structs.{walkFrom, walkOn};
 use job::grid::Grid;
 use metal::codes::lay;
-use metal::codes::lay_run;
+use metal::codes::lay_extension;
 use rules::segment::Segment;
 use rules::step::Made;
 use rules::step::Place;
@@ -22,6 +22,12 @@ pub struct Walk {
     pub cost: usize,
     pub added: usize,
     pub penalties: usize,
+}
+
+// The number of the net at hand, counted from 1, and how many pins it has.
+pub struct NetAtHand {
+    pub number: u16,
+    pub pins: usize,
 }
 
 // A walk of no moves.
@@ -40,7 +46,8 @@ pub fn walk_from(start: usize) -> Walk
     }
 }
 
-// The vertices of a move's extension and the vertex that it enters become metal, and that vertex enters the tree.
+// The vertices of a move's extension and the vertex that it enters become metal, and that vertex enters the
+// tree.
 pub fn enter_move(
     map: &mut [u16],
     spots: &mut [u8; 16384],
@@ -51,11 +58,11 @@ pub fn enter_move(
 )
     requires { ⌜ (Sized grid) × (from < vertices (gridOf grid)) × (made .next .vertex < vertices (gridOf grid)) × (vertices (gridOf grid) ≤ length (now map)) ⌝ }
     ensures map { λ _. ⌜ now (map .exit)
-        ≡ layAll net (beyond (gridOf grid) (directionOf (made .toward)) (made .added) from ++ (made .next .vertex ∷ [])) (now (map .entry)) ⌝ }
+        ≡ layAll net (extended (gridOf grid) from (made .extension) ++ (made .next .vertex ∷ [])) (now (map .entry)) ⌝ }
     ensures spots { λ _. ⌜ now (spots .exit) ≡ set (now (spots .entry)) (made .next .vertex) 1 ⌝ }
 {
-    let toward = made.toward;
-    lay_run(map, grid, from, toward, made.added, net);
+    let extension = made.extension;
+    lay_extension(map, grid, from, extension, net);
     let into = made.next.vertex;
     lay(map, into, net);
     spots[into] = ON_TREE;

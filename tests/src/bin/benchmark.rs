@@ -1,4 +1,4 @@
-//! Times the library's routing beside the second one on four jobs: for each the best
+//! Times the library's routing beside the second one on six jobs: for each the best
 //! of several runs in this process, and how many times as long the library takes.
 //!
 //! Both answer the whole call, from the job's bytes to the plan's. Runs end when

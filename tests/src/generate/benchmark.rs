@@ -1,4 +1,4 @@
-//! The four jobs of the benchmark. Each is the same in every run.
+//! The six jobs of the benchmark. Each is the same in every run.
 
 use super::free_vertices;
 use super::routable::box_around;
@@ -14,13 +14,15 @@ const LOCAL: u32 = 6;
 /// Pins lie on the lowest layers, as those of cells do.
 const PIN_LAYERS: u32 = 2;
 
-/// All four, each with its name.
-pub fn all() -> [(&'static str, Job); 4] {
+/// All six, each with its name.
+pub fn all() -> [(&'static str, Job); 6] {
     [
         ("4 x 64 x 64, 255 local nets", local_nets()),
         ("4 x 64 x 64, 255 nets anywhere", nets_anywhere()),
         ("8 x 45 x 45, M 15", long_segments()),
         ("2 x 8 x 16", small_grid()),
+        ("8 x 45 x 45, M 9, 255 local nets", local_long_segments()),
+        ("2 x 90 x 90, M 9, 255 nets anywhere", two_layers()),
     ]
 }
 
@@ -38,6 +40,14 @@ pub fn long_segments() -> Job {
 
 pub fn small_grid() -> Job {
     job(2, (8, 16), 3, 10, None)
+}
+
+pub fn local_long_segments() -> Job {
+    job(8, (45, 45), 9, 255, Some(LOCAL))
+}
+
+pub fn two_layers() -> Job {
+    job(2, (90, 90), 9, 255, None)
 }
 
 /// A job with nets of two or three pins. Local nets have a guide.
@@ -106,13 +116,23 @@ mod tests {
     use crate::reader::read;
 
     #[test]
-    fn the_four_jobs_are_good() {
+    fn the_six_jobs_are_good() {
         let sizes = all().map(|(_, job)| {
             assert_eq!(read(&job.pack()).as_ref(), Ok(&job));
             (job.grid().vertices(), job.largest_min_length())
         });
-        assert_eq!(sizes, [(16_384, 3), (16_384, 3), (16_200, 15), (256, 3)]);
-        assert_eq!(local_nets().nets.len(), 255);
-        assert_eq!(nets_anywhere().nets.len(), 255);
+        assert_eq!(
+            sizes,
+            [
+                (16_384, 3),
+                (16_384, 3),
+                (16_200, 15),
+                (256, 3),
+                (16_200, 9),
+                (16_200, 9)
+            ]
+        );
+        let nets = all().map(|(_, job)| job.nets.len());
+        assert_eq!(nets, [255, 255, 24, 10, 255, 255]);
     }
 }

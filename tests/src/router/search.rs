@@ -60,7 +60,7 @@ impl<'a> Search<'a> {
         let within = |number: &&u32| {
             let number = **number as usize;
             let left = left.from(number >> self.segment_bits);
-            join.is_none_or(|join| 8 * self.cost[number] + 7 * left < 8 * join.cost)
+            join.is_none_or(|join| 16 * self.cost[number] + 15 * left < 16 * join.cost)
         };
         self.reached.iter().filter(within).count() as u64
     }

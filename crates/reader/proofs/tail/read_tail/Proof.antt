@@ -9,7 +9,7 @@ use lib.Dec.{eqb}
 use lib.ListN.{length, drop, length-drop}
 use lib.Seq.{take-all}
 use Rattle.bits.specs.Bits.{bitsOf, field, number}
-use Rattle.bits.specs.declared.Taken.{Taken}
+use Rattle.bits.specs.declared.FieldRead.{FieldRead}
 use Rattle.bits.proofs.Laws.{length-bitsOf}
 use Rattle.job.specs.Reading.{readTail, rule, refused}
 use Rattle.marks.specs.Structs.{manyReached}
@@ -54,13 +54,13 @@ field-requires c κs = search needs
 returns-3 : tie.Need-returns-3
 unfolding rule manyReached
 returns-3 c =
-    let value = ap (λ (t : Taken). t .value) (c .before .before .field .ensures) in
+    let value = ap (λ (t : FieldRead). t .value) (c .before .before .field .ensures) in
     rw (short _ _ (c .before .before .before .if2 .left), ← value, ne-eqb _ _ (c .if3 .taken))
 
 returns-4 : tie.Need-returns-4
 unfolding rule manyReached
 returns-4 c =
-    let value = ap (λ (t : Taken). t .value) (c .before .before .field .ensures) in
+    let value = ap (λ (t : FieldRead). t .value) (c .before .before .field .ensures) in
     rw (short _ _ (c .before .before .before .if2 .left), ← value, eq-eqb _ _ (c .if3 .left))
 
 pub read-tail-spec : {M : Type 1} → statement M

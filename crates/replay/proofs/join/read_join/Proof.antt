@@ -8,7 +8,7 @@ use Rattle.replay.proofs.join.read_join.Statement.{statement}
 use Rattle.replay.proofs.join.read_join.Tie as tie
 
 read-start-requires : tie.Need-read-start-requires
-read-start-requires c κs = (c .before .before .before .pre .0 .sized, omega (arith, c .before .before .before .pre .2))
+read-start-requires c κs = (c .before .before .before .pre .0 .sized, omega (arith, c .before .before .before .pre .3))
 
 enum-known-start : tie.Need-enum-known-start
 enum-known-start c = search needs
@@ -17,25 +17,25 @@ enum-known-start-2 : tie.Need-enum-known-start-2
 enum-known-start-2 c = search needs
 
 add-read-moves : tie.Need-add-read-moves
-add-read-moves c = omega (arith, c .before .before .before .before .before .before .before .before .before .pre .2)
+add-read-moves c = omega (arith, c .before .before .before .before .before .before .before .before .before .pre .3)
 
 read-moves-requires : tie.Need-read-moves-requires
 read-moves-requires c κs =
     let b = start-bounds _ _ _ _ (bitsOf-bits _) (c .before .before .before .before .before .read-start .ensures) (c .before .before .before .start2 .given .1) in
-    (c .before .before .before .before .before .before .before .before .before .pre .0, c .before .before .before .before .before .before .before .before .before .pre .1, b .0, b .1, omega (arith, c .before .before .before .before .before .before .before .before .before .pre .2))
+    (c .before .before .before .before .before .before .before .before .before .pre .0, c .before .before .before .before .before .before .before .before .before .pre .1, c .before .before .before .before .before .before .before .before .before .pre .2, b .0, b .1, omega (arith, c .before .before .before .before .before .before .before .before .before .pre .3))
 
 add-end-join : tie.Need-add-end-join
-add-end-join c = omega (arith, c .before .before .before .before .before .before .before .before .before .before .before .before .pre .2)
+add-end-join c = omega (arith, c .before .before .before .before .before .before .before .before .before .before .before .before .pre .3)
 
 mul-end-join : tie.Need-mul-end-join
 mul-end-join c = omega (arith, start-bounds _ _ _ _ (bitsOf-bits _) (c .before .before .before .before .before .before .before .before .read-start .ensures) (c .before .before .before .before .before .before .start2 .given .1) .1)
 
 add-end-join-2 : tie.Need-add-end-join-2
-add-end-join-2 c = omega (arith, c .before .before .before .before .before .before .before .before .before .before .before .before .pre .2, start-bounds _ _ _ _ (bitsOf-bits _) (c .before .before .before .before .before .before .before .before .read-start .ensures) (c .before .before .before .before .before .before .start2 .given .1) .1)
+add-end-join-2 c = omega (arith, c .before .before .before .before .before .before .before .before .before .before .before .before .pre .3, start-bounds _ _ _ _ (bitsOf-bits _) (c .before .before .before .before .before .before .before .before .read-start .ensures) (c .before .before .before .before .before .before .start2 .given .1) .1)
 
 end-join-requires : tie.Need-end-join-requires
 end-join-requires c κs =
-    (omega (arith, c .before .before .before .before .before .before .before .before .before .before .before .before .pre .2, start-bounds _ _ _ _ (bitsOf-bits _) (c .before .before .before .before .before .before .before .before .read-start .ensures) (c .before .before .before .before .before .before .start2 .given .1) .1), c .before .before .read-moves .ensures .1 .0)
+    (omega (arith, c .before .before .before .before .before .before .before .before .before .before .before .before .pre .3, start-bounds _ _ _ _ (bitsOf-bits _) (c .before .before .before .before .before .before .before .before .read-start .ensures) (c .before .before .before .before .before .before .start2 .given .1) .1), c .before .before .read-moves .ensures .1 .0)
 
 returns : tie.Need-returns
 unfolding techBy

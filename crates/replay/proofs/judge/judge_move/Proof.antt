@@ -1,8 +1,8 @@
 -- `replay::judge::judge_move` meets its contract: each way out by its law.
-use mathlib.Core.Path.{refl, sym, ap, _∙_}
+use mathlib.Core.Path.{refl, sym, ap}
 use native.Mathlib.Omega.{arith}
 use borrow.Author.Needs.{needs}
-use Rattle.bits.specs.declared.Taken.{Taken}
+use Rattle.bits.specs.declared.FieldRead.{FieldRead}
 use Rattle.job.proofs.Fields.{is-whole, is-cut, all-left, room}
 use Rattle.rules.specs.Structs.{techBy}
 use Rattle.replay.specs.Structs.{judgedOf, WholeJudged}
@@ -11,7 +11,7 @@ use Rattle.replay.proofs.judge.judge_move.Statement.{statement}
 use Rattle.replay.proofs.judge.judge_move.Tie as tie
 
 whole-requires : tie.Need-whole-requires
-whole-requires c κs = omega (arith, c .before .pre .1)
+whole-requires c κs = omega (arith, c .before .pre .2)
 
 returns : tie.Need-returns
 unfolding judgedOf WholeJudged
@@ -19,11 +19,11 @@ returns c =
     record { same = sym (move-cut _ _ _ _ _ _ _ (is-cut 2 _ _ (c .before .whole .ensures) (c .if1 .taken))); whole = tt }
 
 field-requires : tie.Need-field-requires
-field-requires c κs = room tt (all-left 2 (is-whole 2 _ _ (c .before .whole .ensures) (c .if1 .left)) (omega (arith, c .before .before .before .pre .1)))
+field-requires c κs = room tt (all-left 2 (is-whole 2 _ _ (c .before .whole .ensures) (c .if1 .left)) (omega (arith, c .before .before .before .pre .2)))
 
 step-requires : tie.Need-step-requires
 unfolding techBy
-step-requires c κs = (c .before .before .before .before .pre .0 .tech, c .before .before .before .before .pre .0 .place .vertex, place-short (c .before .before .before .before .args .place) (c .before .before .before .before .pre .0))
+step-requires c κs = let pre = c .before .before .before .before .pre in ((_, pre .0 .tech, pre .1, refl), pre .0 .place .vertex, place-short (c .before .before .before .before .args .place) (pre .0))
 
 enum-known-made : tie.Need-enum-known-made
 enum-known-made c = search needs
@@ -34,24 +34,24 @@ enum-told c = search needs
 returns-2 : tie.Need-returns-2
 unfolding techBy
 returns-2 c =
-    judged-illegal _ _ _ _ _ _ _ (is-whole 2 _ _ (c .before .before .before .before .before .whole .ensures) (c .before .before .before .before .if1 .left)) (ap (λ (t : Taken). t .value) (c .before .before .before .field .ensures))
-    (c .before .before .step .ensures) (c .enum-told .given .1)
+    judged-illegal _ _ _ _ _ _ _ (is-whole 2 _ _ (c .before .before .before .before .before .whole .ensures) (c .before .before .before .before .if1 .left)) (ap (λ (t : FieldRead). t .value) (c .before .before .before .field .ensures))
+    (c .before .before .step .ensures _ (c .before .before .before .before .before .before .before .pre .0 .tech) (c .before .before .before .before .before .before .before .pre .1) refl) (c .enum-told .given .1)
 
 element-copy-out-pin : tie.Need-element-copy-out-pin
 unfolding techBy
-element-copy-out-pin c = made-below (c .before .before .before .before .before .before .before .before .args .place) _ _ (c .before .before .before .before .before .before .before .before .pre .0) (c .before .before .before .step .ensures) (c .before .made .given .1)
+element-copy-out-pin c = made-below (c .before .before .before .before .before .before .before .before .args .place) _ _ (c .before .before .before .before .before .before .before .before .pre .0) (c .before .before .before .step .ensures _ (c .before .before .before .before .before .before .before .before .pre .0 .tech) (c .before .before .before .before .before .before .before .before .pre .1) refl) (c .before .made .given .1)
 
 returns-3 : tie.Need-returns-3
 unfolding techBy
 returns-3 c =
-    judged-other _ _ _ (c .before .before .before .before .before .before .before .before .before .before .args .spots .now) (c .before .before .before .before .before .before .before .before .before .before .args .last) _ _ (is-whole 2 _ _ (c .before .before .before .before .before .before .before .before .whole .ensures) (c .before .before .before .before .before .before .before .if1 .left)) (ap (λ (t : Taken). t .value) (c .before .before .before .before .before .before .field .ensures))
-    (c .before .before .before .before .before .step .ensures) (c .before .before .before .made .given .1) (tests-differ _ _ (c .if2 .taken))
+    judged-other _ _ _ (c .before .before .before .before .before .before .before .before .before .before .args .spots .now) (c .before .before .before .before .before .before .before .before .before .before .args .last) _ _ (is-whole 2 _ _ (c .before .before .before .before .before .before .before .before .whole .ensures) (c .before .before .before .before .before .before .before .if1 .left)) (ap (λ (t : FieldRead). t .value) (c .before .before .before .before .before .before .field .ensures))
+    (c .before .before .before .before .before .step .ensures _ (c .before .before .before .before .before .before .before .before .before .before .pre .0 .tech) (c .before .before .before .before .before .before .before .before .before .before .pre .1) refl) (c .before .before .before .made .given .1) (tests-differ _ _ (c .if2 .taken))
 
 returns-4 : tie.Need-returns-4
 unfolding techBy
 returns-4 c =
-    judged-good _ _ _ (c .before .before .before .before .before .before .before .before .before .before .args .spots .now) (c .before .before .before .before .before .before .before .before .before .before .args .last) _ _ (is-whole 2 _ _ (c .before .before .before .before .before .before .before .before .whole .ensures) (c .before .before .before .before .before .before .before .if1 .left)) (ap (λ (t : Taken). t .value) (c .before .before .before .before .before .before .field .ensures))
-    (c .before .before .before .before .before .step .ensures) (c .before .before .before .made .given .1) (tests-same _ _ (c .if2 .left))
+    judged-good _ _ _ (c .before .before .before .before .before .before .before .before .before .before .args .spots .now) (c .before .before .before .before .before .before .before .before .before .before .args .last) _ _ (is-whole 2 _ _ (c .before .before .before .before .before .before .before .before .whole .ensures) (c .before .before .before .before .before .before .before .if1 .left)) (ap (λ (t : FieldRead). t .value) (c .before .before .before .before .before .before .field .ensures))
+    (c .before .before .before .before .before .step .ensures _ (c .before .before .before .before .before .before .before .before .before .before .pre .0 .tech) (c .before .before .before .before .before .before .before .before .before .before .pre .1) refl) (c .before .before .before .made .given .1) (tests-same _ _ (c .if2 .left))
 
 pub judge-move-spec : {M : Type 1} → statement M
 judge-move-spec =

@@ -1,5 +1,6 @@
--- `replay::moves::read_moves` meets its contract: reading the moves that are left gives what reading all gives.
-use mathlib.Core.Path.{refl, sym, ap, _∙_}
+-- `replay::moves::read_moves` meets its contract: reading the moves that are left gives what reading all
+-- gives.
+use mathlib.Core.Path.{refl}
 use native.Mathlib.Omega.{arith}
 use borrow.Author.Needs.{needs}
 use Rattle.bits.specs.Bits.{bitsOf}
@@ -11,21 +12,21 @@ use Rattle.replay.proofs.moves.read_moves.Statement.{statement}
 use Rattle.replay.proofs.moves.read_moves.Tie as tie
 
 abbrev Inv-loop : tie.InvT-loop
-Inv-loop tech seen spots₀ map₀ plan net count from start walk₀ at₀ left₀ spots map walk at left =
+Inv-loop tech prices seen spots₀ map₀ plan net count from start walk₀ at₀ left₀ spots map walk at left =
     Walking tech (viewBy (gridOf (tech .grid)) seen) (bitsOf plan) net count from start (record { spots = spots₀; codes = map₀ }) spots map walk at left
 
 abbrev μ-loop : tie.MeasureT-loop
-μ-loop tech seen spots₀ map₀ plan net count from start walk₀ at₀ left₀ spots map walk at left = left
+μ-loop tech prices seen spots₀ map₀ plan net count from start walk₀ at₀ left₀ spots map walk at left = left
 
 walk-from-requires : tie.Need-walk-from-requires Inv-loop μ-loop
 walk-from-requires c κs = search needs
 
 loop-holds : tie.Need-loop-holds Inv-loop μ-loop
-loop-holds c = walking-begun _ _ _ _ _ _ _ _ (c .walk-from .ensures) (c .before .before .before .pre .2)
+loop-holds c = walking-begun _ _ _ _ _ _ _ _ (c .walk-from .ensures) (c .before .before .before .pre .3)
 
 judge-move-requires : tie.Need-judge-move-requires Inv-loop μ-loop
 judge-move-requires c κs =
-    (record { tech = c .before .before .before .before .before .before .before .pre .0; place = c .before .before .before .loop .inv .made .place }, omega (arith, c .before .before .before .loop .inv .next, c .before .before .before .before .before .before .before .pre .3, c .before .before .before .before .before .before .before .pre .4))
+    (record { tech = c .before .before .before .before .before .before .before .pre .0; place = c .before .before .before .loop .inv .made .place }, c .before .before .before .before .before .before .before .pre .1, omega (arith, c .before .before .before .loop .inv .next, c .before .before .before .before .before .before .before .pre .4, c .before .before .before .before .before .before .before .pre .5))
 
 enum-known-judged : tie.Need-enum-known-judged Inv-loop μ-loop
 enum-known-judged c = search needs
@@ -34,15 +35,15 @@ enter-move-requires : tie.Need-enter-move-requires Inv-loop μ-loop
 unfolding techBy
 enter-move-requires c κs =
     let new = move-fits _ _ _ _ _ _ _ _ (c .before .before .before .before .before .before .before .before .before .loop .inv) (c .before .before .before .before .before .before .before .before .loop-test .taken) _ _ (c .before .before .before .before .before .judge-move .ensures) (c .before .before .before .judged .given .1) (c .before .before .before .before .before .before .before .before .before .before .before .before .before .pre .0) in
-    (c .before .before .before .before .before .before .before .before .before .before .before .before .before .pre .0 .sized, c .before .before .before .before .before .before .before .before .before .loop .inv .made .place .vertex, new .place .vertex, omega (arith, c .before .before .before .before .before .before .before .before .before .before .before .before .before .pre .1, c .before .before .before .before .before .before .before .before .before .loop .inv .size))
+    (c .before .before .before .before .before .before .before .before .before .before .before .before .before .pre .0 .sized, c .before .before .before .before .before .before .before .before .before .loop .inv .made .place .vertex, new .place .vertex, omega (arith, c .before .before .before .before .before .before .before .before .before .before .before .before .before .pre .2, c .before .before .before .before .before .before .before .before .before .loop .inv .size))
 
 walk-on-requires : tie.Need-walk-on-requires Inv-loop μ-loop
 walk-on-requires c κs =
     let new = move-fits _ _ _ _ _ _ _ _ (c .before .before .before .before .before .before .before .before .before .before .before .before .loop .inv) (c .before .before .before .before .before .before .before .before .before .before .before .loop-test .taken) _ _ (c .before .before .before .before .before .before .before .before .judge-move .ensures) (c .before .before .before .before .before .before .judged .given .1) (c .before .before .before .before .before .before .before .before .before .before .before .before .before .before .before .before .pre .0) in
     let inv = c .before .before .before .before .before .before .before .before .before .before .before .before .loop .inv in (
-      omega (arith, inv .made .cost, c .before .before .before .before .before .before .before .before .before .before .before .before .before .before .before .before .pre .3),
-      omega (arith, inv .made .added, c .before .before .before .before .before .before .before .before .before .before .before .before .before .before .before .before .pre .3),
-      omega (arith, inv .made .penalties, c .before .before .before .before .before .before .before .before .before .before .before .before .before .before .before .before .pre .3),
+      omega (arith, inv .made .cost, c .before .before .before .before .before .before .before .before .before .before .before .before .before .before .before .before .pre .4),
+      omega (arith, inv .made .added, c .before .before .before .before .before .before .before .before .before .before .before .before .before .before .before .before .pre .4),
+      omega (arith, inv .made .penalties, c .before .before .before .before .before .before .before .before .before .before .before .before .before .before .before .before .pre .4),
       omega (arith, new .price),
       omega (arith, new .price),
       omega (arith, new .added),
@@ -59,7 +60,7 @@ returns : tie.Need-returns Inv-loop μ-loop
 returns c = walking-refused _ _ _ _ _ _ _ _ (c .before .before .before .before .before .before .before .loop .inv) (c .before .before .before .before .before .before .loop-test .taken) (c .before .before .before .judge-move .ensures) refl (c .before .judged2 .given .1)
 
 add-at : tie.Need-add-at Inv-loop μ-loop
-add-at c = omega (arith, c .before .before .before .before .before .before .before .before .before .before .before .before .before .loop .inv .next, c .before .before .before .before .before .before .before .before .before .before .before .before .before .before .before .before .before .pre .3, c .before .before .before .before .before .before .before .before .before .before .before .before .before .before .before .before .before .pre .4)
+add-at c = omega (arith, c .before .before .before .before .before .before .before .before .before .before .before .before .before .loop .inv .next, c .before .before .before .before .before .before .before .before .before .before .before .before .before .before .before .before .before .pre .4, c .before .before .before .before .before .before .before .before .before .before .before .before .before .before .before .before .before .pre .5)
 
 sub-left : tie.Need-sub-left Inv-loop μ-loop
 sub-left c = c .before .before .before .before .before .before .before .before .before .before .before .before .loop-test .taken
@@ -76,7 +77,7 @@ same-length-2 : tie.Need-same-length-2 Inv-loop μ-loop
 same-length-2 c = search needs
 
 returns-2 : tie.Need-returns-2 Inv-loop μ-loop
-returns-2 c = walking-done _ _ _ _ _ _ _ _ (c .before .loop .inv) (c .loop-test .left) (c .before .before .before .before .before .pre .3)
+returns-2 c = walking-done _ _ _ _ _ _ _ _ (c .before .loop .inv) (c .loop-test .left) (c .before .before .before .before .before .pre .4)
 
 pub read-moves-spec : {M : Type 1} → statement M
 read-moves-spec =

@@ -1,9 +1,8 @@
 -- `replay::net::read_flag` meets its contract.
 use mathlib.Core.Path.{refl, sym, ap, _∙_}
 use native.Mathlib.Omega.{arith}
-use borrow.Author.Needs.{needs}
 use borrow.Author.Tests.{eq-eqb, ne-eqb}
-use Rattle.bits.specs.declared.Taken.{Taken}
+use Rattle.bits.specs.declared.FieldRead.{FieldRead}
 use Rattle.job.proofs.Fields.{is-whole, is-cut, all-left, room}
 use Rattle.replay.specs.Structs.{flagOf}
 use Rattle.replay.proofs.net.read_flag.Statement.{statement}
@@ -24,7 +23,7 @@ unfolding flagOf
 returns-2 c =
     rw (
       is-whole 1 _ _ (c .before .before .before .before .whole .ensures) (c .before .before .before .if1 .left),
-      eq-eqb _ _ (sym (ap (λ (t : Taken). t .value) (c .before .before .field .ensures)) ∙ c .if2 .taken),
+      eq-eqb _ _ (sym (ap (λ (t : FieldRead). t .value) (c .before .before .field .ensures)) ∙ c .if2 .taken),
     ) refl
 
 returns-3 : tie.Need-returns-3
@@ -32,7 +31,7 @@ unfolding flagOf
 returns-3 c =
     rw (
       is-whole 1 _ _ (c .before .before .before .before .whole .ensures) (c .before .before .before .if1 .left),
-      ne-eqb _ _ (λ e. c .if2 .left (ap (λ (t : Taken). t .value) (c .before .before .field .ensures) ∙ e)),
+      ne-eqb _ _ (λ e. c .if2 .left (ap (λ (t : FieldRead). t .value) (c .before .before .field .ensures) ∙ e)),
     ) refl
 
 pub read-flag-spec : {M : Type 1} → statement M

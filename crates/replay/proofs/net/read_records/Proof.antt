@@ -1,4 +1,5 @@
--- `replay::net::read_records` meets its contract: reading the records that are left gives what reading all gives.
+-- `replay::net::read_records` meets its contract: reading the records that are left gives what reading all
+-- gives.
 use mathlib.Core.Path.{refl, sym, _∙_}
 use native.Mathlib.Omega.{arith}
 use borrow.Author.Needs.{needs}
@@ -15,32 +16,32 @@ use Rattle.replay.proofs.net.read_records.Statement.{statement}
 use Rattle.replay.proofs.net.read_records.Tie as tie
 
 abbrev Inv-loop : tie.InvT-loop
-Inv-loop tech seen spots₀ map₀ plan net pins count from totals₀ at₀ left₀ spots map totals at left =
-    Recording tech (viewBy (gridOf (tech .grid)) seen) (bitsOf plan) net (take count pins) count from (totalsOf totals₀)
+Inv-loop tech prices seen spots₀ map₀ plan hand pins from totals₀ at₀ left₀ spots map totals at left =
+    Recording tech (viewBy (gridOf (tech .grid)) seen) (bitsOf plan) (hand .number) (take (hand .pins) pins) (hand .pins) from (totalsOf totals₀)
     (record { spots = spots₀; codes = map₀ }) spots map totals at left
 
 abbrev μ-loop : tie.MeasureT-loop
-μ-loop tech seen spots₀ map₀ plan net pins count from totals₀ at₀ left₀ spots map totals at left = left
+μ-loop tech prices seen spots₀ map₀ plan hand pins from totals₀ at₀ left₀ spots map totals at left = left
 
 loop-holds : tie.Need-loop-holds Inv-loop μ-loop
-loop-holds c = recording-begun _ _ _ _ _ _ _ _ _ _ refl (c .before .before .pre .4)
+loop-holds c = recording-begun _ _ _ _ _ _ _ _ _ _ refl (c .before .before .pre .5)
 
 some-unjoined-requires : tie.Need-some-unjoined-requires Inv-loop μ-loop
-some-unjoined-requires c κs = c .before .before .before .before .before .pre .2
+some-unjoined-requires c κs = c .before .before .before .before .before .pre .3
 
 with-net-requires : tie.Need-with-net-requires Inv-loop μ-loop
-with-net-requires c κs = omega (arith, c .before .before .before .before .loop .inv .joined, c .before .before .before .before .before .before .before .pre .3)
+with-net-requires c κs = omega (arith, c .before .before .before .before .loop .inv .joined, c .before .before .before .before .before .before .before .pre .4)
 
 same-length : tie.Need-same-length Inv-loop μ-loop
 same-length c = search needs
 
 returns : tie.Need-returns Inv-loop μ-loop
 returns c =
-    recording-joined _ _ _ _ _ _ _ _ _ (c .before .before .before .before .before .loop .inv) (c .before .before .before .before .loop-test .taken) (sym (c .before .before .some-unjoined .ensures) ∙ not-true _ (c .before .if1 .taken)) (c .before .before .before .before .before .before .before .before .pre .2 .few)
+    recording-joined _ _ _ _ _ _ _ _ _ (c .before .before .before .before .before .loop .inv) (c .before .before .before .before .loop-test .taken) (sym (c .before .before .some-unjoined .ensures) ∙ not-true _ (c .before .if1 .taken)) (c .before .before .before .before .before .before .before .before .pre .3 .few)
     (c .with-net .ensures)
 
 read-flag-requires : tie.Need-read-flag-requires Inv-loop μ-loop
-read-flag-requires c κs = omega (arith, c .before .before .before .before .loop .inv .bounded .reach, c .before .before .before .before .before .before .before .pre .3, c .before .before .before .before .before .before .before .pre .2 .few)
+read-flag-requires c κs = omega (arith, c .before .before .before .before .loop .inv .bounded .reach, c .before .before .before .before .before .before .before .pre .4, c .before .before .before .before .before .before .before .pre .3 .few)
 
 enum-told : tie.Need-enum-told Inv-loop μ-loop
 enum-told c = search needs
@@ -57,7 +58,7 @@ enum-told-2 : tie.Need-enum-told-2 Inv-loop μ-loop
 enum-told-2 c = search needs
 
 add-t24 : tie.Need-add-t24 Inv-loop μ-loop
-add-t24 c = omega (arith, c .before .before .before .before .before .before .before .loop .inv .bounded .reach, c .before .before .before .before .before .before .before .before .before .before .pre .3, c .before .before .before .before .before .before .before .before .before .before .pre .2 .few)
+add-t24 c = omega (arith, c .before .before .before .before .before .before .before .loop .inv .bounded .reach, c .before .before .before .before .before .before .before .before .before .before .pre .4, c .before .before .before .before .before .before .before .before .before .before .pre .3 .few)
 
 same-length-3 : tie.Need-same-length-3 Inv-loop μ-loop
 same-length-3 c = search needs
@@ -65,17 +66,17 @@ same-length-3 c = search needs
 returns-3 : tie.Need-returns-3 Inv-loop μ-loop
 returns-3 c =
     recording-none _ _ _ _ _ _ _ _ _ (c .before .before .before .before .before .before .before .loop .inv) (c .before .before .before .before .before .before .loop-test .taken) (sym (c .before .before .before .before .some-unjoined .ensures) ∙ not-false _ (c .before .before .before .if1 .left)) (c .before .before .read-flag .ensures)
-    (c .enum-told2 .given .1) (c .before .before .before .before .before .before .before .before .before .before .pre .2 .few)
+    (c .enum-told2 .given .1) (c .before .before .before .before .before .before .before .before .before .before .pre .3 .few)
 
 enum-told-3 : tie.Need-enum-told-3 Inv-loop μ-loop
 enum-told-3 c = search needs
 
 add-read-join : tie.Need-add-read-join Inv-loop μ-loop
-add-read-join c = omega (arith, c .before .before .before .before .before .before .before .before .before .loop .inv .bounded .reach, c .before .before .before .before .before .before .before .before .before .before .before .before .pre .3, c .before .before .before .before .before .before .before .before .before .before .before .before .pre .2 .few)
+add-read-join c = omega (arith, c .before .before .before .before .before .before .before .before .before .loop .inv .bounded .reach, c .before .before .before .before .before .before .before .before .before .before .before .before .pre .4, c .before .before .before .before .before .before .before .before .before .before .before .before .pre .3 .few)
 
 read-join-requires : tie.Need-read-join-requires Inv-loop μ-loop
 read-join-requires c κs =
-    (c .before .before .before .before .before .before .before .before .before .before .before .before .pre .0, omega (arith, c .before .before .before .before .before .before .before .before .before .before .before .before .pre .1, c .before .before .before .before .before .before .before .before .before .loop .inv .size), omega (arith, c .before .before .before .before .before .before .before .before .before .loop .inv .bounded .reach, c .before .before .before .before .before .before .before .before .before .before .before .before .pre .3, c .before .before .before .before .before .before .before .before .before .before .before .before .pre .2 .few))
+    (c .before .before .before .before .before .before .before .before .before .before .before .before .pre .0, c .before .before .before .before .before .before .before .before .before .before .before .before .pre .1, omega (arith, c .before .before .before .before .before .before .before .before .before .before .before .before .pre .2, c .before .before .before .before .before .before .before .before .before .loop .inv .size), omega (arith, c .before .before .before .before .before .before .before .before .before .loop .inv .bounded .reach, c .before .before .before .before .before .before .before .before .before .before .before .before .pre .4, c .before .before .before .before .before .before .before .before .before .before .before .before .pre .3 .few))
 
 enum-known-joined : tie.Need-enum-known-joined Inv-loop μ-loop
 enum-known-joined c = search needs
@@ -96,9 +97,9 @@ unfolding JoinFits
 with-join-requires c κs =
     let fit = rw (c .before .joined2 .given .1) at (c .before .before .before .before .before .read-join .ensures .1 .0) in
     let b = c .before .before .before .before .before .before .before .before .before .before .before .before .before .before .before .loop .inv .bounded in (
-      omega (arith, b .cost, fit .0 .cost, c .before .before .before .before .before .before .before .before .before .before .before .before .before .before .before .before .before .before .pre .3, c .before .before .before .before .before .before .before .before .before .before .before .before .before .before .before .before .before .before .pre .2 .few),
-      omega (arith, b .added, fit .0 .added, c .before .before .before .before .before .before .before .before .before .before .before .before .before .before .before .before .before .before .pre .3, c .before .before .before .before .before .before .before .before .before .before .before .before .before .before .before .before .before .before .pre .2 .few),
-      omega (arith, b .penalties, fit .0 .penalties, c .before .before .before .before .before .before .before .before .before .before .before .before .before .before .before .before .before .before .pre .3, c .before .before .before .before .before .before .before .before .before .before .before .before .before .before .before .before .before .before .pre .2 .few),
+      omega (arith, b .cost, fit .0 .cost, c .before .before .before .before .before .before .before .before .before .before .before .before .before .before .before .before .before .before .pre .4, c .before .before .before .before .before .before .before .before .before .before .before .before .before .before .before .before .before .before .pre .3 .few),
+      omega (arith, b .added, fit .0 .added, c .before .before .before .before .before .before .before .before .before .before .before .before .before .before .before .before .before .before .pre .4, c .before .before .before .before .before .before .before .before .before .before .before .before .before .before .before .before .before .before .pre .3 .few),
+      omega (arith, b .penalties, fit .0 .penalties, c .before .before .before .before .before .before .before .before .before .before .before .before .before .before .before .before .before .before .pre .4, c .before .before .before .before .before .before .before .before .before .before .before .before .before .before .before .before .before .before .pre .3 .few),
     )
 
 sub-left : tie.Need-sub-left Inv-loop μ-loop
@@ -114,13 +115,13 @@ loop-again c =
     (c .before .before .before .before .before .before .read-join .ensures .1 .1 .0) (c .before .before .before .before .before .before .read-join .ensures .1 .1 .1) (c .with-join .ensures)
 
 with-net-requires-2 : tie.Need-with-net-requires-2 Inv-loop μ-loop
-with-net-requires-2 c κs = omega (arith, c .before .loop .inv .joined, c .before .before .before .before .pre .3)
+with-net-requires-2 c κs = omega (arith, c .before .loop .inv .joined, c .before .before .before .before .pre .4)
 
 same-length-5 : tie.Need-same-length-5 Inv-loop μ-loop
 same-length-5 c = search needs
 
 returns-5 : tie.Need-returns-5 Inv-loop μ-loop
-returns-5 c = recording-done _ _ _ _ _ _ _ _ _ (c .before .before .loop .inv) (c .before .loop-test .left) (c .before .before .before .before .before .pre .2 .few) (c .with-net2 .ensures)
+returns-5 c = recording-done _ _ _ _ _ _ _ _ _ (c .before .before .loop .inv) (c .before .loop-test .left) (c .before .before .before .before .before .pre .3 .few) (c .with-net2 .ensures)
 
 pub read-records-spec : {M : Type 1} → statement M
 read-records-spec =

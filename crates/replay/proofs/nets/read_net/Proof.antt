@@ -4,7 +4,7 @@ use Rattle.replay.proofs.nets.read_net.Statement.{statement}
 use Rattle.replay.proofs.nets.read_net.Tie as tie
 
 begin-tree-requires : tie.Need-begin-tree-requires
-begin-tree-requires c κs = c .before .before .before .pre .2
+begin-tree-requires c κs = c .before .before .before .pre .3
 
 read-records-requires : tie.Need-read-records-requires
 read-records-requires c κs = c .before .before .before .before .before .before .pre

@@ -11,17 +11,20 @@ use Rattle.replay.proofs.nets.read_nets.Statement.{statement}
 use Rattle.replay.proofs.nets.read_nets.Tie as tie
 
 abbrev Inv-loop : tie.InvT-loop
-Inv-loop s tech marks map₀ plan nets from seen₀ pins₀ boxes₀ place₀ at₀ totals₀ net₀ left₀ map seen pins boxes place at totals net left =
+Inv-loop s tech marks map₀ plan nets from seen₀ pins₀ boxes₀ place₀ at₀ totals₀ net₀ left₀ prices map seen pins boxes place at totals net left =
     Netting s tech marks map₀ (bitsOf plan) (bitsOf-bits plan) map pins boxes place at totals net left
 
 abbrev μ-loop : tie.MeasureT-loop
-μ-loop s tech marks map₀ plan nets from seen₀ pins₀ boxes₀ place₀ at₀ totals₀ net₀ left₀ map seen pins boxes place at totals net left = left
+μ-loop s tech marks map₀ plan nets from seen₀ pins₀ boxes₀ place₀ at₀ totals₀ net₀ left₀ prices map seen pins boxes place at totals net left = left
 
 no-totals-requires : tie.Need-no-totals-requires Inv-loop μ-loop
 no-totals-requires c κs = search needs
 
+fill-prices-requires : tie.Need-fill-prices-requires Inv-loop μ-loop
+fill-prices-requires c κs = c .before .before .before .before .before .pre .fits
+
 loop-holds : tie.Need-loop-holds Inv-loop μ-loop
-loop-holds c = netting-begun _ _ _ _ _ _ (c .before .before .before .before .pre) refl refl (c .no-totals .ensures)
+loop-holds c = netting-begun _ _ _ _ _ _ (c .before .before .before .before .before .before .pre) refl refl (c .before .before .no-totals .ensures)
 
 load-net-requires : tie.Need-load-net-requires Inv-loop μ-loop
 load-net-requires c κs =
@@ -48,10 +51,11 @@ see-net-requires c κs =
 
 read-net-requires : tie.Need-read-net-requires Inv-loop μ-loop
 read-net-requires c κs =
-    let inv = c .before .before .before .before .before .before .before .before .before .before .before .before .loop .inv in
-    let some = c .before .before .before .before .before .before .before .before .before .before .before .loop-test .taken in
-    let loaded = c .before .before .before .before .before .before .before .before .load-net .ensures in (
+    let inv = c .before .before .before .before .before .before .before .before .before .before .before .before .before .loop .inv in
+    let some = c .before .before .before .before .before .before .before .before .before .before .before .before .loop-test .taken in
+    let loaded = c .before .before .before .before .before .before .before .before .before .load-net .ensures in (
       inv .held .fits,
+      c .before .before .before .before .before .before .before .before .before .before .before .before .before .before .fill-prices .ensures,
       nets-room _ _ _ _ _ (inv .nets),
       pins-fit _ _ _ _ _ (inv .nets) some (loaded .0) (loaded .1 .0) (loaded .1 .1),
       omega (arith, net-below _ _ _ _ _ (inv .nets) some),
@@ -63,22 +67,22 @@ enum-known-read c = search needs
 
 same-length : tie.Need-same-length Inv-loop μ-loop
 same-length c =
-    let inv = c .before .before .before .before .before .before .before .before .before .before .before .before .before .before .before .before .before .before .loop .inv in
-    let some = c .before .before .before .before .before .before .before .before .before .before .before .before .before .before .before .before .before .loop-test .taken in
-    let loaded = c .before .before .before .before .before .before .before .before .before .before .before .before .before .before .load-net .ensures in
-    netting-kept _ _ _ _ _ _ inv some (loaded .0) (loaded .1 .0) (loaded .1 .1) _ (c .before .before .before .before .before .before .before .before .before .see-net .ensures) _ (c .before .before .before .before .before .read-net .ensures .0) (c .before .before .before .before .before .read-net .ensures .1 .1) .size
+    let inv = c .before .before .before .before .before .before .before .before .before .before .before .before .before .before .before .before .before .before .before .loop .inv in
+    let some = c .before .before .before .before .before .before .before .before .before .before .before .before .before .before .before .before .before .before .loop-test .taken in
+    let loaded = c .before .before .before .before .before .before .before .before .before .before .before .before .before .before .before .load-net .ensures in
+    netting-kept _ _ _ _ _ _ inv some (loaded .0) (loaded .1 .0) (loaded .1 .1) _ (c .before .before .before .before .before .before .before .before .before .before .see-net .ensures) _ (c .before .before .before .before .before .read-net .ensures .0) (c .before .before .before .before .before .read-net .ensures .1 .1) .size
 
 returns : tie.Need-returns Inv-loop μ-loop
 unfolding NetFits
 returns c =
-    let inv = c .before .before .before .before .before .before .before .before .before .before .before .before .before .before .before .before .before .before .loop .inv in
-    let some = c .before .before .before .before .before .before .before .before .before .before .before .before .before .before .before .before .before .loop-test .taken in
-    let loaded = c .before .before .before .before .before .before .before .before .before .before .before .before .before .before .load-net .ensures in (
-      netting-refused _ _ _ _ _ _ inv some (loaded .0) (loaded .1 .0) (loaded .1 .1) _ (c .before .before .before .before .before .before .before .before .before .see-net .ensures) _ (c .before .before .before .before .before .read-net .ensures .0)
+    let inv = c .before .before .before .before .before .before .before .before .before .before .before .before .before .before .before .before .before .before .before .loop .inv in
+    let some = c .before .before .before .before .before .before .before .before .before .before .before .before .before .before .before .before .before .before .loop-test .taken in
+    let loaded = c .before .before .before .before .before .before .before .before .before .before .before .before .before .before .before .load-net .ensures in (
+      netting-refused _ _ _ _ _ _ inv some (loaded .0) (loaded .1 .0) (loaded .1 .1) _ (c .before .before .before .before .before .before .before .before .before .before .see-net .ensures) _ (c .before .before .before .before .before .read-net .ensures .0)
           (c .before .before .before .before .before .read-net .ensures .1 .1) (c .before .read .given .1),
       (
         tt,
-        netting-kept _ _ _ _ _ _ inv some (loaded .0) (loaded .1 .0) (loaded .1 .1) _ (c .before .before .before .before .before .before .before .before .before .see-net .ensures) _ (c .before .before .before .before .before .read-net .ensures .0) (c .before .before .before .before .before .read-net .ensures .1 .1),
+        netting-kept _ _ _ _ _ _ inv some (loaded .0) (loaded .1 .0) (loaded .1 .1) _ (c .before .before .before .before .before .before .before .before .before .before .see-net .ensures) _ (c .before .before .before .before .before .read-net .ensures .0) (c .before .before .before .before .before .read-net .ensures .1 .1),
       ),
     )
 
@@ -86,17 +90,17 @@ enum-known-read-2 : tie.Need-enum-known-read-2 Inv-loop μ-loop
 enum-known-read-2 c = search needs
 
 sub-left : tie.Need-sub-left Inv-loop μ-loop
-sub-left c = c .before .before .before .before .before .before .before .before .before .before .before .before .before .before .before .before .before .loop-test .taken
+sub-left c = c .before .before .before .before .before .before .before .before .before .before .before .before .before .before .before .before .before .before .loop-test .taken
 
 loop-less : tie.Need-loop-less Inv-loop μ-loop
-loop-less c = omega (arith, c .before .before .before .before .before .before .before .before .before .before .before .before .before .before .before .before .before .loop-test .taken)
+loop-less c = omega (arith, c .before .before .before .before .before .before .before .before .before .before .before .before .before .before .before .before .before .before .loop-test .taken)
 
 loop-again : tie.Need-loop-again Inv-loop μ-loop
 loop-again c =
-    let inv = c .before .before .before .before .before .before .before .before .before .before .before .before .before .before .before .before .before .before .loop .inv in
-    let some = c .before .before .before .before .before .before .before .before .before .before .before .before .before .before .before .before .before .loop-test .taken in
-    let loaded = c .before .before .before .before .before .before .before .before .before .before .before .before .before .before .load-net .ensures in
-    netting-on _ _ _ _ _ _ inv some (loaded .0) (loaded .1 .0) (loaded .1 .1) _ (c .before .before .before .before .before .before .before .before .before .see-net .ensures) _ (c .before .before .before .before .before .read-net .ensures .0)
+    let inv = c .before .before .before .before .before .before .before .before .before .before .before .before .before .before .before .before .before .before .before .loop .inv in
+    let some = c .before .before .before .before .before .before .before .before .before .before .before .before .before .before .before .before .before .before .loop-test .taken in
+    let loaded = c .before .before .before .before .before .before .before .before .before .before .before .before .before .before .before .load-net .ensures in
+    netting-on _ _ _ _ _ _ inv some (loaded .0) (loaded .1 .0) (loaded .1 .1) _ (c .before .before .before .before .before .before .before .before .before .before .see-net .ensures) _ (c .before .before .before .before .before .read-net .ensures .0)
     (c .before .before .before .before .before .read-net .ensures .1 .1) (c .before .read2 .given .1) (c .before .before .before .before .before .read-net .ensures .1 .0)
 
 same-length-2 : tie.Need-same-length-2 Inv-loop μ-loop
@@ -109,5 +113,5 @@ returns-2 c =
 
 pub read-nets-spec : {M : Type 1} → statement M
 read-nets-spec =
-    tie.close (tie.spec Inv-loop μ-loop no-totals-requires loop-holds load-net-requires add-net see-net-requires read-net-requires enum-known-read
+    tie.close (tie.spec Inv-loop μ-loop no-totals-requires fill-prices-requires loop-holds load-net-requires add-net see-net-requires read-net-requires enum-known-read
     same-length returns enum-known-read-2 sub-left loop-less loop-again same-length-2 returns-2)

@@ -3,8 +3,8 @@ use mathlib.Core.Path.{refl, sym, ap, _∙_}
 use native.Mathlib.Omega.{arith}
 use borrow.Author.Needs.{needs}
 use borrow.Author.Tests.{not-true, not-false}
-use Rattle.bits.specs.declared.Taken.{Taken}
-use Rattle.job.proofs.Fields.{is-whole, is-cut, all-left, room}
+use Rattle.bits.specs.declared.FieldRead.{FieldRead}
+use Rattle.job.proofs.Fields.{is-whole, is-cut, all-left}
 use Rattle.job.proofs.Sizes.{inside-fields}
 use Rattle.replay.specs.Structs.{startRead}
 use Rattle.replay.proofs.Parts.{inside-below, vertex-read, vertex-whole, start-cut, start-outside, start-off, start-none, start-whole}
@@ -67,13 +67,13 @@ returns-5 : tie.Need-returns-5
 unfolding startRead
 returns-5 c =
     let w = is-whole 39 _ _ (c .before .before .before .before .before .before .before .before .before .before .before .before .before .whole .ensures) (c .before .before .before .before .before .before .before .before .before .before .before .before .if1 .left) in
-    rw (start-none _ _ _ _ w (vertex-read _ _ w (c .before .before .before .before .before .before .before .before .before .before .before .vertex-group .ensures) (c .before .before .before .before .before .before .before .before .before .vertex .given .1)) (sym (c .before .before .before .before .before .before .before .inside .ensures) ∙ not-false _ (c .before .before .before .before .before .before .if2 .left)) (c .before .before .before .before .before .number .ensures) (c .before .before .before .if3 .left) (ap (λ (t : Taken). t .value) (c .before .before .field .ensures)) (c .if4 .taken)) refl
+    rw (start-none _ _ _ _ w (vertex-read _ _ w (c .before .before .before .before .before .before .before .before .before .before .before .vertex-group .ensures) (c .before .before .before .before .before .before .before .before .before .vertex .given .1)) (sym (c .before .before .before .before .before .before .before .inside .ensures) ∙ not-false _ (c .before .before .before .before .before .before .if2 .left)) (c .before .before .before .before .before .number .ensures) (c .before .before .before .if3 .left) (ap (λ (t : FieldRead). t .value) (c .before .before .field .ensures)) (c .if4 .taken)) refl
 
 returns-6 : tie.Need-returns-6
 unfolding startRead
 returns-6 c =
     let w = is-whole 39 _ _ (c .before .before .before .before .before .before .before .before .before .before .before .before .before .whole .ensures) (c .before .before .before .before .before .before .before .before .before .before .before .before .if1 .left) in
-    rw (start-whole _ _ _ _ w (vertex-read _ _ w (c .before .before .before .before .before .before .before .before .before .before .before .vertex-group .ensures) (c .before .before .before .before .before .before .before .before .before .vertex .given .1)) (sym (c .before .before .before .before .before .before .before .inside .ensures) ∙ not-false _ (c .before .before .before .before .before .before .if2 .left)) (c .before .before .before .before .before .number .ensures) (c .before .before .before .if3 .left) (ap (λ (t : Taken). t .value) (c .before .before .field .ensures)) (c .if4 .left)) refl
+    rw (start-whole _ _ _ _ w (vertex-read _ _ w (c .before .before .before .before .before .before .before .before .before .before .before .vertex-group .ensures) (c .before .before .before .before .before .before .before .before .before .vertex .given .1)) (sym (c .before .before .before .before .before .before .before .inside .ensures) ∙ not-false _ (c .before .before .before .before .before .before .if2 .left)) (c .before .before .before .before .before .number .ensures) (c .before .before .before .if3 .left) (ap (λ (t : FieldRead). t .value) (c .before .before .field .ensures)) (c .if4 .left)) refl
 
 pub read-start-spec : {M : Type 1} → statement M
 read-start-spec =

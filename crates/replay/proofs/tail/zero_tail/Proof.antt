@@ -1,7 +1,7 @@
 -- `replay::tail::zero_tail` meets its contract.
 use mathlib.Core.Path.{ap}
 use native.Mathlib.Omega.{arith}
-use Rattle.bits.specs.declared.Taken.{Taken}
+use Rattle.bits.specs.declared.FieldRead.{FieldRead}
 use Rattle.replay.proofs.Tails.{tail-long, tail-none, tail-left}
 use Rattle.replay.proofs.tail.zero_tail.Statement.{statement}
 use Rattle.replay.proofs.tail.zero_tail.Tie as tie
@@ -29,7 +29,7 @@ field-requires c κs =
     }
 
 returns-3 : tie.Need-returns-3
-returns-3 c = tail-left _ _ (c .before .before .before .if1 .left) (ap (λ (t : Taken). t .value) (c .before .field .ensures))
+returns-3 c = tail-left _ _ (c .before .before .before .if1 .left) (ap (λ (t : FieldRead). t .value) (c .before .field .ensures))
 
 pub zero-tail-spec : {M : Type 1} → statement M
 zero-tail-spec = tie.close (tie.spec add-if1 returns mul-end returns-2 sub-field field-requires returns-3)

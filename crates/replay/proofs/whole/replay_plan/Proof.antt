@@ -1,6 +1,4 @@
 -- `replay::whole::replay_plan` meets its contract.
-use mathlib.Core.Path.{ap, _∙_}
-use native.Mathlib.Omega.{arith}
 use borrow.Author.Needs.{needs}
 use Rattle.walker.proofs.Wholes.{plan-room, pins-held, nets-held, after-long, count-zeroed, bare-long}
 use Rattle.replay.proofs.Wholes.{plan-answer, plan-map, count-finished}

@@ -6,21 +6,19 @@ use Rattle.routing.proofs.net.route_net.Statement.{statement}
 use Rattle.routing.proofs.net.route_net.Tie as tie
 
 begin-tree-requires : tie.Need-begin-tree-requires
-begin-tree-requires c κs = (c .before .before .before .before .pre) .0 .3
+begin-tree-requires c κs = (c .before .before .before .before .pre) .4
 
 route-records-requires : tie.Need-route-records-requires
 route-records-requires c κs =
     let pre = (c .before .before .before .before .before .before .before .before .before .pre) in
-    let known = begun-among (gridOf ((c .before .before .before .before .before .before .before .before .before .args) .tech .grid)) _ (pre .0 .0 .fits .sized .vertices) (pre .0 .3 .onGrid) in (
-      (
-        pre .0 .0,
-        pre .0 .1,
-        pre .0 .2,
-        record { there = pre .0 .3; onGrid = pre .0 .6; known = λ v h is. known v h (rw ((c .before .before .before .before .begin-tree) .ensures) at is) },
-        pre .0 .4,
-        pre .0 .5,
-      ),
+    let known = begun-among (gridOf ((c .before .before .before .before .before .before .before .before .before .args) .tech .grid)) _ (pre .0 .sized .vertices) (pre .4 .onGrid) in (
+      pre .0,
       pre .1,
+      pre .2,
+      pre .3,
+      record { there = pre .4; onGrid = pre .7; known = λ v h is. known v h (rw ((c .before .before .before .before .begin-tree) .ensures) at is) },
+      pre .5,
+      pre .6,
     )
 
 same-length : tie.Need-same-length

@@ -1,5 +1,4 @@
--- `routing::nets::route_nets` meets its contract: what has been routed, then the nets that are left, is the whole. The clear runs are those
--- of the net before, or of a view in which nothing is clear.
+-- `routing::nets::route_nets` meets its contract: what has been routed, then the nets that are left, is the whole.
 use Prim.Native.Nat.{ℕ}
 use mathlib.Core.Path.{_≡_, refl, ap, _∙_}
 use mathlib.Core.List.{List}
@@ -8,31 +7,26 @@ use borrow.Author.Needs.{needs}
 use lib.ListN.{length}
 use Rattle.job.specs.Structs.{gridOf}
 use Rattle.rules.specs.Structs.{techBy}
-use Rattle.runs.specs.Runs.{SomeView}
-use Rattle.runs.proofs.Counts.{none-clear}
 use Rattle.walker.proofs.Nets.{nets-sized, nets-room, nets-kept, net-below, hand-held, pins-fit, pins-below, boxes-few}
 use Rattle.routing.proofs.Netting.{Netting, netting-begun, netting-on, netting-done, fits-all, bounded-next}
 use Rattle.routing.proofs.nets.route_nets.Statement.{statement}
 use Rattle.routing.proofs.nets.route_nets.Tie as tie
 
 abbrev Inv-loop : tie.InvT-loop
-Inv-loop s tech marks map₀ largest work₀ plan₀ nets from seen₀ pins₀ boxes₀ place₀ bits₀ totals₀ net₀ left₀ rates ground lows₀ highs₀ map work plan seen pins boxes place bits totals net left lows highs =
-    Netting s tech marks map₀ plan₀ map pins boxes plan place bits totals net left × (work ≡ work₀) × SomeView (gridOf (tech .grid)) lows highs
+Inv-loop s tech marks map₀ work₀ plan₀ nets from seen₀ pins₀ boxes₀ place₀ routed₀ net₀ left₀ prices map work plan seen pins boxes place routed net left =
+    Netting s tech marks map₀ plan₀ map pins boxes plan place (routed .bits) (routed .totals) net left × (work ≡ work₀)
 
 abbrev μ-loop : tie.MeasureT-loop
-μ-loop s tech marks map₀ largest work₀ plan₀ nets from seen₀ pins₀ boxes₀ place₀ bits₀ totals₀ net₀ left₀ rates ground lows₀ highs₀ map work plan seen pins boxes place bits totals net left lows highs = left
+μ-loop s tech marks map₀ work₀ plan₀ nets from seen₀ pins₀ boxes₀ place₀ routed₀ net₀ left₀ prices map work plan seen pins boxes place routed net left = left
 
 no-totals-requires : tie.Need-no-totals-requires Inv-loop μ-loop
 no-totals-requires c κs = search needs
 
-fill-rates-requires : tie.Need-fill-rates-requires Inv-loop μ-loop
-fill-rates-requires c κs = (c .before .before .before .before .before .before .pre) .1 .fits
-
-fill-ground-requires : tie.Need-fill-ground-requires Inv-loop μ-loop
-fill-ground-requires c κs = (c .before .before .before .before .before .before .before .before .pre) .1 .fits .sized
+fill-prices-requires : tie.Need-fill-prices-requires Inv-loop μ-loop
+fill-prices-requires c κs = (c .before .before .before .before .before .before .pre) .0 .fits
 
 loop-holds : tie.Need-loop-holds Inv-loop μ-loop
-loop-holds c = (netting-begun _ _ _ _ _ ((c .before .before .before .before .before .before .before .before .before .pre) .0) refl refl ((c .before .before .before .before .no-totals) .ensures), refl, none-clear _ 16384)
+loop-holds c = (netting-begun _ _ _ _ _ ((c .before .before .before .before .before .before .before .pre) .0) refl refl ((c .before .before .no-totals) .ensures), refl)
 
 load-net-requires : tie.Need-load-net-requires Inv-loop μ-loop
 load-net-requires c κs =
@@ -58,42 +52,36 @@ see-net-requires c κs =
       pins-below _ _ _ _ _ (inv .nets) some (loaded .0) (loaded .1 .0) (loaded .1 .1),
     )
 
-fill-runs-requires : tie.Need-fill-runs-requires Inv-loop μ-loop
-fill-runs-requires c κs = ((c .before .before .before .before .before .before .before .before .before .before .before .before .before .before .before .before .before .before .before .before .before .before .pre) .1 .fits .sized, (c .before .before .before .before .before .before .before .before .before .before .before .before .loop) .inv .2)
-
 route-net-requires : tie.Need-route-net-requires Inv-loop μ-loop
 unfolding techBy
 route-net-requires c κs =
-    let inv = (c .before .before .before .before .before .before .before .before .before .before .before .before .before .before .before .before .before .before .before .before .before .before .loop) .inv in
-    let pre = (c .before .before .before .before .before .before .before .before .before .before .before .before .before .before .before .before .before .before .before .before .before .before .before .before .before .before .before .before .before .before .before .before .pre) in
-    let some = (c .before .before .before .before .before .before .before .before .before .before .before .before .before .before .before .before .before .before .before .before .before .loop-test) .taken in
-    let loaded = (c .before .before .before .before .before .before .before .before .before .before .before .before .before .before .before .before .before .before .load-net) .ensures in (
-      (
-        pre .1,
-        rw (inv .1) (pre .2),
-        nets-room _ _ _ _ _ (inv .0 .nets),
-        pins-fit _ _ _ _ _ (inv .0 .nets) some (loaded .0) (loaded .1 .0) (loaded .1 .1),
-        omega (arith, net-below _ _ _ _ _ (inv .0 .nets) some),
-        bounded-next _ _ _ _ _ (inv .0),
-        pins-below _ _ _ _ _ (inv .0 .nets) some (loaded .0) (loaded .1 .0) (loaded .1 .1),
-      ),
-      record { prices = ((c .before .before .before .before .before .before .before .before .before .before .before .before .before .before .before .before .before .before .before .before .before .before .before .before .before .fill-rates) .ensures); places = ((c .before .before .before .before .before .before .before .before .before .before .before .before .before .before .before .before .before .before .before .before .before .before .before .fill-ground) .ensures); low = ((c .before .before .before .before .before .before .before .before .before .fill-runs) .ensures) .0; high = ((c .before .before .before .before .before .before .before .before .before .fill-runs) .ensures) .1 },
+    let inv = (c .before .before .before .before .before .before .before .before .before .before .before .before .before .before .before .loop) .inv in
+    let pre = (c .before .before .before .before .before .before .before .before .before .before .before .before .before .before .before .before .before .before .before .before .before .before .before .pre) in
+    let some = (c .before .before .before .before .before .before .before .before .before .before .before .before .before .before .loop-test) .taken in
+    let loaded = (c .before .before .before .before .before .before .before .before .before .before .before .load-net) .ensures in (
+      pre .0 .fits,
+      (c .before .before .before .before .before .before .before .before .before .before .before .before .before .before .before .before .fill-prices) .ensures,
+      rw (inv .1) (pre .1),
+      nets-room _ _ _ _ _ (inv .0 .nets),
+      pins-fit _ _ _ _ _ (inv .0 .nets) some (loaded .0) (loaded .1 .0) (loaded .1 .1),
+      omega (arith, net-below _ _ _ _ _ (inv .0 .nets) some),
+      bounded-next _ _ _ _ _ (inv .0),
+      pins-below _ _ _ _ _ (inv .0 .nets) some (loaded .0) (loaded .1 .0) (loaded .1 .1),
     )
 
 sub-left : tie.Need-sub-left Inv-loop μ-loop
-sub-left c = omega (arith, (c .before .before .before .before .before .before .before .before .before .before .before .before .before .before .before .before .before .before .before .before .before .before .before .before .before .before .before .before .before .loop-test) .taken)
+sub-left c = omega (arith, (c .before .before .before .before .before .before .before .before .before .before .before .before .before .before .before .before .before .before .before .before .before .loop-test) .taken)
 
 loop-less : tie.Need-loop-less Inv-loop μ-loop
-loop-less c = omega (arith, (c .before .before .before .before .before .before .before .before .before .before .before .before .before .before .before .before .before .before .before .before .before .before .before .before .before .before .before .before .before .loop-test) .taken)
+loop-less c = omega (arith, (c .before .before .before .before .before .before .before .before .before .before .before .before .before .before .before .before .before .before .before .before .before .loop-test) .taken)
 
 loop-again : tie.Need-loop-again Inv-loop μ-loop
 loop-again c =
-    let inv = (c .before .before .before .before .before .before .before .before .before .before .before .before .before .before .before .before .before .before .before .before .before .before .before .before .before .before .before .before .before .before .loop) .inv in
-    let loaded = (c .before .before .before .before .before .before .before .before .before .before .before .before .before .before .before .before .before .before .before .before .before .before .before .before .before .before .load-net) .ensures in
-    let (answer, (fits, work)) = (c .before .before .before .before .before .before .before .route-net) .ensures in (
-      netting-on _ _ _ _ _ (inv .0) ((c .before .before .before .before .before .before .before .before .before .before .before .before .before .before .before .before .before .before .before .before .before .before .before .before .before .before .before .before .before .loop-test) .taken) (loaded .0) (loaded .1 .0) (loaded .1 .1) _ ((c .before .before .before .before .before .before .before .before .before .before .before .before .before .before .before .before .before .before .before .before .before .see-net) .ensures) _ answer fits ((c .before .before .plan) .given),
+    let inv = (c .before .before .before .before .before .before .before .before .before .before .before .before .before .before .before .before .before .before .before .before .before .before .loop) .inv in
+    let loaded = (c .before .before .before .before .before .before .before .before .before .before .before .before .before .before .before .before .before .before .load-net) .ensures in
+    let (answer, (fits, work)) = (c .before .before .before .before .before .before .route-net) .ensures in (
+      netting-on _ _ _ _ _ (inv .0) ((c .before .before .before .before .before .before .before .before .before .before .before .before .before .before .before .before .before .before .before .before .before .loop-test) .taken) (loaded .0) (loaded .1 .0) (loaded .1 .1) _ ((c .before .before .before .before .before .before .before .before .before .before .before .before .before .see-net) .ensures) _ answer fits ((c .before .plan) .given),
       work ∙ inv .1,
-      (let (lower, higher) = (c .before .before .before .before .before .before .before .before .before .before .before .before .before .before .before .before .before .fill-runs) .ensures in record { view = _; lower = lower; higher = higher }),
     )
 
 same-length : tie.Need-same-length Inv-loop μ-loop
@@ -112,5 +100,5 @@ returns c =
 
 pub route-nets-spec : {M : Type 1} → statement M
 route-nets-spec =
-    tie.close (tie.spec Inv-loop μ-loop no-totals-requires fill-rates-requires fill-ground-requires loop-holds load-net-requires add-net see-net-requires fill-runs-requires route-net-requires sub-left loop-less
+    tie.close (tie.spec Inv-loop μ-loop no-totals-requires fill-prices-requires loop-holds load-net-requires add-net see-net-requires route-net-requires sub-left loop-less
     loop-again same-length same-length-2 same-length-3 returns)

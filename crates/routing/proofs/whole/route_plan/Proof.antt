@@ -20,7 +20,6 @@ route-nets-requires c κs =
     let pre = c .before .before .before .before .before .before .before .before .before .before .before .before .before .before .before .before .pre in (
       nets-held _ _ _ _ _ _ (pre .0) (count-zeroed _ (c .before .before .before .before .before .before .before .before .before .before .before .vertices .ensures) (c .before .before .before .before .before .before .before .before .before .zero-codes .ensures)) (c .before .before .before .before .before .lay-all-pins .ensures .0) (c .before .before .before .before .before .lay-all-pins .ensures .1),
       pre .1,
-      pre .2,
     )
 
 put-obstacles-requires : tie.Need-put-obstacles-requires

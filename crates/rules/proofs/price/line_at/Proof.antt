@@ -1,38 +1,76 @@
 -- `rules::price::line_at` meets its contract.
 use mathlib.Core.Path.{refl}
-use native.Mathlib.Omega.{arith}
-use Rattle.rules.specs.Structs.{lineAt}
+use borrow.Author.Needs.{needs}
+use Rattle.rules.specs.PriceLists.{lineIn}
 use Rattle.rules.proofs.price.line_at.Statement.{statement}
 use Rattle.rules.proofs.price.line_at.Tie as tie
 
-mul-t7 : tie.Need-mul-t7
-mul-t7 c = omega (arith, c .before .before .before .before .pre)
+mul-t3 : tie.Need-mul-t3
+mul-t3 c = search needs
 
-array-read-t10 : tie.Need-array-read-t10
-array-read-t10 c = c .before .before .before .before .pre
+mul-t4 : tie.Need-mul-t4
+mul-t4 c = search needs
 
-mul-t11 : tie.Need-mul-t11
-mul-t11 c = omega (arith, c .before .before .before .before .pre)
+element-copy-out-t7 : tie.Need-element-copy-out-t7
+element-copy-out-t7 c = search needs
 
-array-read-t14 : tie.Need-array-read-t14
-array-read-t14 c = c .before .before .before .before .pre
+mul-t8 : tie.Need-mul-t8
+mul-t8 c = search needs
 
-mul-t15 : tie.Need-mul-t15
-mul-t15 c = omega (arith, c .before .before .before .before .pre)
+add-t9 : tie.Need-add-t9
+add-t9 c = search needs
 
-array-read-t18 : tie.Need-array-read-t18
-array-read-t18 c = c .before .before .before .before .pre
+mul-t10 : tie.Need-mul-t10
+mul-t10 c = search needs
 
-mul-t19 : tie.Need-mul-t19
-mul-t19 c = omega (arith, c .before .before .before .before .pre)
+element-copy-out-t13 : tie.Need-element-copy-out-t13
+element-copy-out-t13 c = search needs
 
-array-read-t22 : tie.Need-array-read-t22
-array-read-t22 c = c .before .before .before .before .pre
+mul-t14 : tie.Need-mul-t14
+mul-t14 c = search needs
+
+add-t15 : tie.Need-add-t15
+add-t15 c = search needs
+
+mul-t16 : tie.Need-mul-t16
+mul-t16 c = search needs
+
+element-copy-out-t19 : tie.Need-element-copy-out-t19
+element-copy-out-t19 c = search needs
+
+mul-t20 : tie.Need-mul-t20
+mul-t20 c = search needs
+
+add-t21 : tie.Need-add-t21
+add-t21 c = search needs
+
+mul-t22 : tie.Need-mul-t22
+mul-t22 c = search needs
+
+element-copy-out-t25 : tie.Need-element-copy-out-t25
+element-copy-out-t25 c = search needs
 
 returns : tie.Need-returns
-unfolding lineAt
+unfolding lineIn
 returns c = refl
 
 pub line-at-spec : {M : Type 1} → statement M
 line-at-spec =
-    tie.close (tie.spec mul-t7 array-read-t10 mul-t11 array-read-t14 mul-t15 array-read-t18 mul-t19 array-read-t22 returns)
+    tie.close
+    (tie.spec
+    mul-t3
+    mul-t4
+    element-copy-out-t7
+    mul-t8
+    add-t9
+    mul-t10
+    element-copy-out-t13
+    mul-t14
+    add-t15
+    mul-t16
+    element-copy-out-t19
+    mul-t20
+    add-t21
+    mul-t22
+    element-copy-out-t25
+    returns)

@@ -1,16 +1,29 @@
 -- `rules::step::leave_layer` meets its contract.
-use Rattle.rules.proofs.Owed.{few-added}
+use mathlib.Core.Path.{ap, _∙_}
+use native.Mathlib.Omega.{arith}
+use Rattle.job.specs.declared.groups.Layer.{Layer}
+use Rattle.rules.specs.Structs.{techBy}
+use Rattle.rules.proofs.Fitting.{layer-known}
+use Rattle.rules.proofs.Held.{line-fits}
+use Rattle.rules.proofs.PriceLists.{line-told}
 use Rattle.rules.proofs.step.leave_layer.Statement.{statement}
 use Rattle.rules.proofs.step.leave_layer.Tie as tie
 
 overhead-of-requires : tie.Need-overhead-of-requires
 overhead-of-requires c κs = c .pre
 
+line-at-requires : tie.Need-line-at-requires
+line-at-requires c κs = layer-known (c .before .pre .1)
+
 leave-by-requires : tie.Need-leave-by-requires
-leave-by-requires c κs = (c .before .pre .0, c .before .pre .1, few-added _ _ _ _ (c .overhead-of .ensures .whole))
+leave-by-requires c κs =
+    let (tech, here, same) = c .before .before .pre in
+    let is = c .line-at .ensures ∙ line-told here in
+    (omega (arith, ap (λ (l : Layer). l .wire) is, line-fits (here .fits) (here .there) .wire), c .before .overhead-of .ensures tech here same .few)
 
 returns : tie.Need-returns
-returns c = c .leave-by .ensures _ _ (c .before .overhead-of .ensures)
+unfolding techBy
+returns c tech here same = c .leave-by .ensures _ _ _ _ (c .before .line-at .ensures ∙ line-told here) (c .before .before .overhead-of .ensures tech here same)
 
 pub leave-layer-spec : {M : Type 1} → statement M
-leave-layer-spec = tie.close (tie.spec overhead-of-requires leave-by-requires returns)
+leave-layer-spec = tie.close (tie.spec overhead-of-requires line-at-requires leave-by-requires returns)

@@ -1,68 +1,21 @@
--- `rules::step::step` meets its contract: each way out by its law.
-use mathlib.Core.Path.{sym, ap, _∙_}
-use native.Mathlib.Omega.{arith}
-use borrow.Author.Needs.{needs}
-use Rattle.rules.specs.Structs.{techBy, costOf}
-use Rattle.rules.proofs.Fitting.{entered-outside, entered-at}
-use Rattle.rules.proofs.Neighbours.{entered-below}
-use Rattle.rules.proofs.Held.{on-grid, in-array, seen-blocked}
-use Rattle.rules.proofs.Stepping.{step-outside, step-blocked, step-closed, step-by}
+-- `rules::step::step` meets its contract.
+use Rattle.rules.proofs.Held.{on-grid}
 use Rattle.rules.proofs.step.step.Statement.{statement}
 use Rattle.rules.proofs.step.step.Tie as tie
 
-entered-by-requires : tie.Need-entered-by-requires
-entered-by-requires c κs = on-grid (c .pre .0) (c .pre .1)
+vertex-by-requires : tie.Need-vertex-by-requires
+vertex-by-requires c κs =
+    let (tech, fits, priced, same) = c .pre .0 in
+    rw (← same) (on-grid fits (rw same (c .pre .1)))
 
-enum-known-into : tie.Need-enum-known-into
-enum-known-into c = search needs
-
-enum-told : tie.Need-enum-told
-enum-told c = search needs
+step-from-requires : tie.Need-step-from-requires
+step-from-requires c κs =
+    let (tech, fits, priced, same) = c .before .pre .0 in
+    ((tech, record { fits = fits; priced = priced; there = rw same (c .before .pre .1); is = rw same (c .vertex-by .ensures) }, same), c .before .pre .2)
 
 returns : tie.Need-returns
-unfolding techBy
-returns c = step-outside _ _ _ _ (entered-outside _ (sym (c .before .before .entered-by .ensures) ∙ c .enum-told .given .1))
-
-has-requires : tie.Need-has-requires
-has-requires c κs =
-    let on = entered-at _ (sym (c .before .before .before .entered-by .ensures) ∙ c .before .into .given .1) in
-    (in-array (c .before .before .before .before .pre .0) (entered-below _ _ (c .before .before .before .before .pre .1) on), omega arith)
-
-returns-2 : tie.Need-returns-2
-unfolding techBy
-returns-2 c =
-    let on = entered-at _ (sym (c .before .before .before .before .before .entered-by .ensures) ∙ c .before .before .before .into .given .1) in
-    step-blocked _ _ _ _ on (seen-blocked _ _ _ (entered-below _ _ (c .before .before .before .before .before .before .pre .1) on) ∙ sym (c .before .has .ensures) ∙ c .if1 .taken)
-
-entering-requires : tie.Need-entering-requires
-entering-requires c κs =
-    let on = entered-at _ (sym (c .before .before .before .before .before .entered-by .ensures) ∙ c .before .before .before .into .given .1) in
-    (c .before .before .before .before .before .before .pre .0, c .before .before .before .before .before .before .pre .1, entered-below _ _ (c .before .before .before .before .before .before .pre .1) on)
-
-enum-known-enter : tie.Need-enum-known-enter
-enum-known-enter c = search needs
-
-enum-told-2 : tie.Need-enum-told-2
-enum-told-2 c = search needs
-
-returns-3 : tie.Need-returns-3
-unfolding techBy costOf
-returns-3 c =
-    let on = entered-at _ (sym (c .before .before .before .before .before .before .before .before .entered-by .ensures) ∙ c .before .before .before .before .before .before .into .given .1) in
-    step-closed _ _ _ _ on (seen-blocked _ _ _ (entered-below _ _ (c .before .before .before .before .before .before .before .before .before .pre .1) on) ∙ sym (c .before .before .before .before .has .ensures) ∙ c .before .before .before .if1 .left)
-    (sym (c .before .before .entering .ensures) ∙ ap costOf (c .enum-told2 .given .1))
-
-by-segment-requires : tie.Need-by-segment-requires
-by-segment-requires c κs = c .before .before .before .before .before .before .before .before .before .before .pre
-
-returns-4 : tie.Need-returns-4
-unfolding techBy costOf
-returns-4 c =
-    let on = entered-at _ (sym (c .before .before .before .before .before .before .before .before .before .before .entered-by .ensures) ∙ c .before .before .before .before .before .before .before .before .into .given .1) in
-    step-by _ _ _ _ on (seen-blocked _ _ _ (entered-below _ _ (c .before .before .before .before .before .before .before .before .before .before .before .pre .1) on) ∙ sym (c .before .before .before .before .before .before .has .ensures) ∙ c .before .before .before .before .before .if1 .left)
-    (sym (c .before .before .before .before .entering .ensures) ∙ ap costOf (c .before .before .enter .given .1)) (c .by-segment .ensures)
+returns c tech fits priced same =
+    c .step-from .ensures tech (record { fits = fits; priced = priced; there = rw same (c .before .before .pre .1); is = rw same (c .before .vertex-by .ensures) }) same
 
 pub step-spec : {M : Type 1} → statement M
-step-spec =
-    tie.close (tie.spec entered-by-requires enum-known-into enum-told returns has-requires returns-2 entering-requires enum-known-enter
-    enum-told-2 returns-3 by-segment-requires returns-4)
+step-spec = tie.close (tie.spec vertex-by-requires step-from-requires returns)

@@ -1,0 +1,34 @@
+-- `joins::next::mark_found` meets its contract.
+use borrow.Author.Needs.{needs}
+use native.Mathlib.Omega.{arith}
+use Rattle.metal.proofs.Slices.{beyond-refl}
+use Rattle.joins.proofs.Records.{none-found, laid-end}
+use Rattle.joins.proofs.next.mark_found.Statement.{statement}
+use Rattle.joins.proofs.next.mark_found.Tie as tie
+
+returns : tie.Need-returns
+returns c =
+    let pre = c .before .before .pre in (
+      record {
+        found = λ below. absurd (omega (arith, below, c .if1 .taken));
+        none = λ none. none-found _ _ (pre .0 .good) (pre .3) (pre .2) none;
+      },
+      (laid-end (pre .2), beyond-refl _ _),
+    )
+
+mark-requires : tie.Need-mark-requires
+mark-requires c κs = let pre = c .before .before .before .before .pre in (pre .0, pre .1, c .before .before .if1 .left, (_, pre .2), pre .3, pre .4)
+
+same-length : tie.Need-same-length
+same-length c = search needs
+
+returns-2 : tie.Need-returns-2
+returns-2 c =
+    let (last, laid) = laid-end (c .before .before .before .before .before .before .before .pre .2) in
+    let marked = c .before .before .mark .ensures in (
+      record { found = λ below. (_, marked .0, marked .1 .0); none = λ none. absurd (omega (arith, none, c .before .before .before .before .before .if1 .left)) },
+      ((last, marked .1 .1 .0 _ last laid), marked .1 .1 .1),
+    )
+
+pub mark-found-spec : {M : Type 1} → statement M
+mark-found-spec = tie.close (tie.spec returns mark-requires same-length returns-2)

@@ -1,2 +1,0 @@
-// The clear runs of every vertex. When a net begins, those of tracks that changed are made anew.
-pub mod fill;

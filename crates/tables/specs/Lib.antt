@@ -1,3 +1,0 @@
-pub mod Grounds
-pub mod Rates
-pub mod Moves
