@@ -1,6 +1,6 @@
 -- `search::reach::reach_all` meets its contract: so many moves are tried.
 use Prim.Native.Nat.{_-_}
-use mathlib.Core.Path.{_≡_, refl}
+use mathlib.Core.Path.{_≡_}
 use native.Mathlib.Omega.{arith}
 use borrow.Author.Needs.{needs}
 use Rattle.rules.specs.Structs.{techBy, seenBy, placeOf}

@@ -1,6 +1,5 @@
 -- `search::seed::some_in` meets its contract.
 use Prim.Native.Nat.{_-_}
-use borrow.Author.Needs.{needs}
 use native.Mathlib.Omega.{arith}
 use Rattle.search.proofs.Seeding.{Flagged, flagged-begun, flagged-on, flagged-none}
 use Rattle.search.proofs.seed.some_in.Statement.{statement}

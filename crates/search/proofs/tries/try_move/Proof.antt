@@ -1,7 +1,6 @@
 -- `search::tries::try_move` meets its contract: numbers 0 and 1 step along the track, others are vias.
 use mathlib.Core.Path.{refl}
 use native.Mathlib.Omega.{arith}
-use borrow.Author.Needs.{needs}
 use Rattle.rules.specs.Segments.{kindOf}
 use Rattle.rules.specs.Structs.{directionOf}
 use Rattle.search.proofs.Reaching.{attempt-told}
