@@ -1,17 +1,18 @@
 /* Maizespell, a detailed router over priced metal layers. For C99 and C++17, on x86-64 Linux.
  *
- * Sizing says what slices a job needs, routing makes its plan, replay reads a plan again. Each may be called with
- * any bytes and slices of any length: it returns a result or a numbered refusal.
+ * Sizing says what slices a job needs, routing makes its plan, replay reads a plan again. Each may be called
+ * with any bytes and slices of any length: it returns a result or a numbered refusal.
  *
  * Slices are lent as a pointer and a length.
- * - The length counts numbers of the pointer's type, and so many must be there. No call touches what lies outside
- *   its slices, or writes through a pointer to const.
+ * - The length counts numbers of the pointer's type, and so many must be there. No call touches what lies
+ *   outside its slices, or writes through a pointer to const.
  * - A slice of length 0 may have any pointer, null included: nothing is read or written through it.
  * - The pointer is aligned as its type asks: map to 2 bytes, work to 8.
- * - The slices of a call do not overlap, and nobody else writes them, or reads those that the call may write, before
- *   it returns.
- * - The caller owns them. No pointer is kept after a call returns, nothing is allocated, and there is no state from
- *   call to call: calls may run at once in several threads, with map, work and routing's plan of their own.
+ * - The slices of a call do not overlap, and nobody else writes them, or reads those that the call may write,
+ *   before it returns.
+ * - The caller owns them. No pointer is kept after a call returns, nothing is allocated, and there is no
+ *   state from call to call: calls may run at once in several threads, with map, work and routing's plan of
+ *   their own.
  *
  * A call takes its working memory from the caller's stack: see the constants below. */
 #ifndef MAIZESPELL_H
@@ -24,8 +25,9 @@
 extern "C" {
 #endif
 
-/* The numbers of refusals. The first broken rule in reading order is returned, with its place: 12 to 14 give the
- * need, all others a bit position, counted from the most significant bit of the first byte, 15 to 18 in the plan. */
+/* The numbers of refusals. The first broken rule in reading order is returned, with its place: 12 to 14 give
+ * the need, all others a bit position, counted from the most significant bit of the first byte, 15 to 18 in
+ * the plan. */
 enum maizespell_refusal {
     MAIZESPELL_NOT_REFUSED = 0,
     MAIZESPELL_JOB_TOO_LONG = 1,                 /* job over 262,144 bytes; place 0 */
@@ -50,7 +52,8 @@ enum maizespell_refusal {
     MAIZESPELL_COST_DIFFERS = 18                 /* the cost */
 };
 
-/* What the map holds for a vertex; 1 to 255 are metal of that net alone. Vertices go by layer, row, column. */
+/* What the map holds for a vertex; 1 to 255 are metal of that net alone. Vertices go by layer, row and
+ * column. */
 enum maizespell_map {
     MAIZESPELL_MAP_BARE = 0,
     MAIZESPELL_MAP_SEVERAL_NETS = 256,
@@ -64,8 +67,8 @@ enum maizespell_stack {
     MAIZESPELL_ROUTING_STACK = 74 * 1024
 };
 
-/* What sizing answers. Where the job is good, refusal and place are 0. Where it is refused, refusal is 1 to 11 and
- * vertices and work are 0. */
+/* What sizing answers. Where the job is good, refusal and place are 0. Where it is refused, refusal is 1 to
+ * 11 and vertices and work are 0. */
 struct maizespell_sizing_result {
     uint64_t refusal;
     uint64_t place;
@@ -76,8 +79,8 @@ struct maizespell_sizing_result {
 /* Reads a job's bytes. */
 struct maizespell_sizing_result maizespell_sizing(const uint8_t *job, size_t job_len);
 
-/* What routing answers. Where the plan fits, refusal and place are 0. On a refusal, 1 to 14, every number but it and
- * its place is 0. */
+/* What routing answers. Where the plan fits, refusal and place are 0. On a refusal, 1 to 14, every number but
+ * it and its place is 0. */
 struct maizespell_routing_result {
     uint64_t refusal;
     uint64_t place;
@@ -88,16 +91,17 @@ struct maizespell_routing_result {
     uint64_t joined;    /* nets fully joined */
 };
 
-/* Routes a job. The needs of map and work are those that sizing gives. How many bytes the plan needs is known only
- * after routing: lend a guess, and where it is refused by 14, call again with the place's number of bytes.
- * After success the needed part of the map holds the codes above, and the needed part of work is zero. After 14 the
- * needed parts of map and work and the whole plan slice are zero. After 1 to 13 every slice is as found. What lies
- * past the needs of map and work, and after success past the plan's bytes, is as found. */
+/* Routes a job. The needs of map and work are those that sizing gives. How many bytes the plan needs is known
+ * only after routing: lend a guess, and where it is refused by 14, call again with the place's number of
+ * bytes. After success the needed part of the map holds the codes above, and the needed part of work is zero.
+ * After 14 the needed parts of map and work and the whole plan slice are zero. After 1 to 13 every slice is
+ * as found. What lies past the needs of map and work, and after success past the plan's bytes, is as found.
+ */
 struct maizespell_routing_result maizespell_routing(const uint8_t *job, size_t job_len, uint16_t *map, size_t map_len,
                                                     uint64_t *work, size_t work_len, uint8_t *plan, size_t plan_len);
 
-/* What replay answers. Where the plan is accepted, refusal and place are 0. On a refusal, 1 to 13 or 15 to 18, every
- * number but it and its place is 0. */
+/* What replay answers. Where the plan is accepted, refusal and place are 0. On a refusal, 1 to 13 or 15 to
+ * 18, every number but it and its place is 0. */
 struct maizespell_replay_result {
     uint64_t refusal;
     uint64_t place;
@@ -107,10 +111,10 @@ struct maizespell_replay_result {
     uint64_t joined;
 };
 
-/* Reads a plan against a job: the map and the totals of its records, if each is legal and rightly priced. It does not
- * ask whether they are cheapest. The needs are those that sizing gives. After success map and work are as after
- * routing; after 15 to 18 their needed parts are zero; after 1 to 13 both are as found, and so is always what lies
- * past their needs. */
+/* Reads a plan against a job: the map and the totals of its records, if each is legal and rightly priced. It
+ * does not ask whether they are cheapest. The needs are those that sizing gives. After success map and work
+ * are as after routing; after 15 to 18 their needed parts are zero; after 1 to 13 both are as found, and so
+ * is always what lies past their needs. */
 struct maizespell_replay_result maizespell_replay(const uint8_t *job, size_t job_len, const uint8_t *plan,
                                                   size_t plan_len, uint16_t *map, size_t map_len, uint64_t *work,
                                                   size_t work_len);

@@ -1,8 +1,8 @@
-// Routes the job in a file, replays its plan, and prints totals and map. The plan's bytes go to a second file, if one is
-// named.
+// Routes the job in a file, replays its plan, and prints totals and map. The plan's bytes go to a second
+// file, if one is named.
 //
-// Exit status: 0 routed, and replay confirms it; 1 refused, the message on standard error says why; 2 bad usage, or
-// a file could not be read or written; 3 replay does not confirm the plan.
+// Exit status: 0 routed, and replay confirms it; 1 refused, the message on standard error says why; 2 bad
+// usage, or a file could not be read or written; 3 replay does not confirm the plan.
 #include <exception>
 #include <iostream>
 #include <string>

@@ -14,7 +14,7 @@ struct Grid {
     std::size_t columns;
 };
 
-// From the job's head: edition 4 bits, direction 1, layers minus one 3, columns minus one 8, rows minus one 8.
+// From the job's head: edition 4 bits, direction 1; each minus one: layers 3, columns 8, rows 8.
 Grid grid_of(const Bytes &job) {
     return {(job.at(0) & 7U) + 1U, job.at(2) + 1U, job.at(1) + 1U};
 }

@@ -11,7 +11,7 @@ namespace host {
 // Needs, plan bytes and totals, one to a line.
 void print_totals(std::ostream &out, const Needs &needs, const Routed &routed);
 
-// Layer by layer, a line for each row: . bare, * several nets, # obstacle, else the net. The job is a good one.
+// Layer by layer, a line for each row: . bare, * several nets, # obstacle, else the net. For a good job.
 void print_map(std::ostream &out, const Bytes &job, const Map &map);
 
 } // namespace host

@@ -26,8 +26,8 @@ struct Head {
     nets: u32,
 }
 
-/// What stands on the grid so far, one mark a vertex.
-struct Marks {
+/// What stands on the grid so far, by vertex.
+struct Occupied {
     grid: Grid,
     obstacle: Vec<bool>,
     pin: Vec<bool>,
@@ -44,21 +44,21 @@ pub fn read(bytes: &[u8]) -> Result<Job, Refusal> {
         let top = layer + 1 == head.layers;
         job.layers.push(read_layer(&mut bits, top)?);
     }
-    let mut marks = Marks::bare(job.grid());
+    let mut occupied = Occupied::bare(job.grid());
     for _ in 0..head.obstacles {
-        job.obstacles.push(read_obstacle(&mut bits, &mut marks)?);
+        job.obstacles.push(read_obstacle(&mut bits, &mut occupied)?);
     }
     for _ in 0..head.nets {
-        job.nets.push(read_net(&mut bits, &mut marks)?);
+        job.nets.push(read_net(&mut bits, &mut occupied)?);
     }
     read_tail(&mut bits)?;
     Ok(job)
 }
 
-impl Marks {
+impl Occupied {
     fn bare(grid: Grid) -> Self {
         let bare = vec![false; grid.vertices() as usize];
-        Marks {
+        Occupied {
             grid,
             obstacle: bare.clone(),
             pin: bare,
@@ -142,21 +142,21 @@ pub fn read_vertex(bits: &mut BitReader) -> Vertex {
     vertex(layer, row, column)
 }
 
-fn read_obstacle(bits: &mut BitReader, marks: &mut Marks) -> Result<Obstacle, Refusal> {
+fn read_obstacle(bits: &mut BitReader, occupied: &mut Occupied) -> Result<Obstacle, Refusal> {
     let place = whole(bits, 27)?;
     let start = read_vertex(bits);
     let run = bits.take(8) + 1;
     for step in 0..run {
-        let covered = marks.grid.along(start, step);
-        if !marks.grid.holds(covered) {
+        let covered = occupied.grid.along(start, step);
+        if !occupied.grid.holds(covered) {
             return refuse(6, place);
         }
-        marks.obstacle[marks.grid.number(covered)] = true;
+        occupied.obstacle[occupied.grid.number(covered)] = true;
     }
     Ok(Obstacle { start, run })
 }
 
-fn read_net(bits: &mut BitReader, marks: &mut Marks) -> Result<Net, Refusal> {
+fn read_net(bits: &mut BitReader, occupied: &mut Occupied) -> Result<Net, Refusal> {
     let place = whole(bits, 8)?;
     let pins = bits.take(4) + 1;
     let boxes = bits.take(4);
@@ -168,24 +168,24 @@ fn read_net(bits: &mut BitReader, marks: &mut Marks) -> Result<Net, Refusal> {
         boxes: Vec::new(),
     };
     for _ in 0..pins {
-        net.pins.push(read_pin(bits, marks)?);
+        net.pins.push(read_pin(bits, occupied)?);
     }
     for _ in 0..boxes {
-        net.boxes.push(read_box(bits, &marks.grid)?);
+        net.boxes.push(read_box(bits, &occupied.grid)?);
     }
     Ok(net)
 }
 
-fn read_pin(bits: &mut BitReader, marks: &mut Marks) -> Result<Vertex, Refusal> {
+fn read_pin(bits: &mut BitReader, occupied: &mut Occupied) -> Result<Vertex, Refusal> {
     let place = whole(bits, 19)?;
     let pin = read_vertex(bits);
-    if !marks.grid.holds(pin) || marks.obstacle[marks.grid.number(pin)] {
+    if !occupied.grid.holds(pin) || occupied.obstacle[occupied.grid.number(pin)] {
         return refuse(8, place);
     }
-    if marks.pin[marks.grid.number(pin)] {
+    if occupied.pin[occupied.grid.number(pin)] {
         return refuse(9, place);
     }
-    marks.pin[marks.grid.number(pin)] = true;
+    occupied.pin[occupied.grid.number(pin)] = true;
     Ok(pin)
 }
 

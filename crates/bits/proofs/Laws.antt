@@ -1,4 +1,5 @@
--- The laws of the definitions in specs/Bits.antt, under one name. Each is stated and proved in one of these files:
+-- The laws of the definitions in specs/Bits.antt, under one name. Each is stated and proved in one of these
+-- files:
 --     Numbers     lists of bits, the bits of a number, the number that bits write
 --     Bytes       the bits of bytes, bits packed as bytes, fields at a position
 --     Putting     bits put into bytes

@@ -1,11 +1,17 @@
 -- What the code of this crate leans on, over plain numbers and lists.
---     whole-test                                                       the test for enough bytes is the test for enough bits
+--     whole-test
+--         the test for enough bytes is the test for enough bits
 --     one-shl, one-shl-pos                                             a power of two as a shift
---     byteWith, bits-joined, joined-below, in-byte, byteWith-byte      a part put together with what a byte keeps
---     field-byte, field-in-byte, field-join                            a field in one byte, and a field in two parts
---     Read, read-first, read-room, read-turn, read-last                the loop that reads: what it has, its start, the room, a turn, its end
---     put-out, put-in-byte                                             bits past the last byte, and bits in one byte
---     Put, put-turn, put-last                                          the loop that puts: what is still to do, a turn, its end
+--     byteWith, bits-joined, joined-below, in-byte, byteWith-byte
+--         a part put together with what a byte keeps
+--     field-byte, field-in-byte, field-join
+--         a field in one byte, and a field in two parts
+--     Read, read-first, read-room, read-turn, read-last
+--         the loop that reads: what it has, its start, the room, a turn, its end
+--     put-out, put-in-byte
+--         bits past the last byte, and bits in one byte
+--     Put, put-turn, put-last
+--         the loop that puts: what is still to do, a turn, its end
 -- Not here: the laws that callers use (Laws).
 use Prim.Native.Nat.{ℕ, zero, suc, _+_, _-_, _*_, _/_, _%_, _^_, _≤_, _<_}
 use mathlib.Core.Path.{_≡_, refl, sym, ap, _∙_}
@@ -60,11 +66,11 @@ bits-joined byte p w v h l = rw (one-shl w (omega arith), shl-exact p w 64 (kept
 pub joined-below : (byte p w v : ℕ) → byte < 256 → p + w ≤ 8 → byte / 2 ^ (8 - p) * 2 ^ w + v % 2 ^ w < 2 ^ (p + w)
 joined-below byte p w v h l = rw pow-add (digits-lt (kept-below byte p h (omega arith)) (mod-lt v (pow-pos w)))
 
--- digits moved r places on, part by part
+-- digits moved r positions on, part by part
 shifted : (k m w r q : ℕ) → q ≡ w + r → (k * 2 ^ w + m) * 2 ^ r ≡ k * 2 ^ q + m * 2 ^ r
 shifted k m w r q e = rw (e, pow-add 2 w r) (omega arith)
 
--- moved to their place, they are the byte with a part
+-- moved to their position, they are the byte with a part
 pub in-byte : (byte p w v : ℕ) → byte < 256 → p + w ≤ 8
     → (byte / 2 ^ (8 - p) * 2 ^ w % 2 ^ 64 + v % (1 * 2 ^ w % 2 ^ 64)) * 2 ^ (8 - p - w) % 2 ^ 64 ≡ byteWith byte p w v
 in-byte byte p w v h l =
@@ -93,10 +99,10 @@ field-in-byte s at k h hk l =
     let p = at % 8 in
     let bits = fieldBits 8 (getD s i 0) in
     let rest = drop (8 * suc i) (bitsOf s) in
-    let place : 8 * i + p ≡ at = omega arith in
+    let position : 8 * i + p ≡ at = omega arith in
     let eight : length bits ≡ 8 = length-fieldBits 8 (getD s i 0) in
     let here : drop at (bitsOf s) ≡ drop p bits ++ rest =
-    ap (λ (n : ℕ). drop n (bitsOf s)) (sym place) ∙ sym (drop-drop p (8 * i) (bitsOf s)) ∙ ap (drop p) (byte-at s i (omega arith)) ∙ drop-append-le p bits rest (omega arith) in
+    ap (λ (n : ℕ). drop n (bitsOf s)) (sym position) ∙ sym (drop-drop p (8 * i) (bitsOf s)) ∙ ap (drop p) (byte-at s i (omega arith)) ∙ drop-append-le p bits rest (omega arith) in
     ap (λ (r : List ℕ). number (take k r)) here ∙ ap number (take-append-le k (drop p bits) rest (rw length-drop (omega arith)))
 
 -- a field in two parts
@@ -108,14 +114,14 @@ field-join B at w k h =
 
 -- the loop that reads, at its head: value is the field of the bits before at, and left bits are still to read
 pub record Read (s : List ℕ) (at₀ width at left value : ℕ) : Type 0 where
-  pub place : at + left ≡ at₀ + width
+  pub position : at + left ≡ at₀ + width
   pub part : left ≤ width
   pub value-is : value ≡ field (bitsOf s) at₀ (width - left)
 
 -- where it begins
 pub read-first : (s : List ℕ) (at width : ℕ) → Read s at width at width 0
 unfolding field number
-read-first s at width = record { place = refl; part = le-refl width; value-is = rw sub-self }
+read-first s at width = record { position = refl; part = le-refl width; value-is = rw sub-self }
 
 -- there is room for k bits more
 pub read-room : (s : List ℕ) (at₀ width at left value k : ℕ) → Read s at₀ width at left value → width ≤ 64 → k ≤ left → (value + 1) * 2 ^ k ≤ 2 ^ 64
@@ -132,7 +138,7 @@ read-turn s at₀ width at left value k r h hk l lb =
     let more : width - (left - k) ≡ d + k = omega arith in
     let here : at₀ + d ≡ at = omega arith in
     record {
-      place = omega arith;
+      position = omega arith;
       part = omega arith;
       value-is =
           rw (more, field-join (bitsOf s) at₀ d k (rw length-bitsOf (omega arith)), here, ← (r .value-is), field-in-byte s at k (omega arith) hk lb);
@@ -191,9 +197,9 @@ put-some (suc w) s at v h l =
     let p = at % 8 in
     let b = v / 2 ^ suc w % 2 in
     let byte : suc at / 8 ≡ i = omega arith in
-    let place : suc at % 8 ≡ suc p = omega arith in
+    let position : suc at % 8 ≡ suc p = omega arith in
     let rest = put-some w (putBit s at b) (suc at) v (rw length-set (omega arith)) (omega arith) in
-    rest ∙ rw (byte, place, getD-set-same s i (putInByte (getD s i 0) p b) 0 h, put-join (getD s i 0) p w v l, set-set)
+    rest ∙ rw (byte, position, getD-set-same s i (putInByte (getD s i 0) p b) 0 h, put-join (getD s i 0) p w v l, set-set)
 
 -- the same, of any number of bits but none
 pub put-in-byte : (s : List ℕ) (at w v : ℕ) → at / 8 < length s → 0 < w → at % 8 + w ≤ 8
@@ -203,7 +209,7 @@ put-in-byte s at (suc w) v h hw l = put-some w s at v h l
 
 -- the loop that puts, at its head: to put the left lowest bits from at on is all that is still to do
 pub record Put (buf₀ : List ℕ) (width value at₀ : ℕ) (buf : List ℕ) (at left : ℕ) : Type 0 where
-  pub place : at + left ≡ at₀ + width
+  pub position : at + left ≡ at₀ + width
   pub part : left ≤ width
   pub rest : putBits buf at (fieldBits left value) ≡ putBits buf₀ at₀ (fieldBits width value)
 
@@ -214,7 +220,7 @@ put-turn buf₀ width value at₀ buf at left k r h =
     let all : k + (left - k) ≡ left = omega arith in
     let parts = putBits-append buf at (fieldBits k (value / 2 ^ (left - k))) (fieldBits (left - k) value) in
     record {
-      place = omega arith;
+      position = omega arith;
       part = omega arith;
       rest = sym (rw (length-fieldBits, ← (fieldBits-split k (left - k) value), all) at parts) ∙ r .rest;
     }

@@ -42,12 +42,12 @@ field bits at w = number (take w (drop at bits))
 unfoldable pub whole : (bits : List ℕ) (at w : ℕ) → Bool
 whole bits at w = leb (at + w) (length bits)
 
--- A byte in which the bits before a place stay, the bit at the place is b, and those after it are zero.
-unfoldable pub putInByte : (byte place b : ℕ) → ℕ
-putInByte byte place b = byte / 2 ^ (8 - place) * 2 ^ (8 - place) + b * 2 ^ (7 - place)
+-- A byte in which the bits before a position stay, the bit at the position is b, and those after it are zero.
+unfoldable pub putInByte : (byte position b : ℕ) → ℕ
+putInByte byte position b = byte / 2 ^ (8 - position) * 2 ^ (8 - position) + b * 2 ^ (7 - position)
 
--- Bytes with one bit put at a position: the bits before it stay, the rest of its byte is zero, other bytes stay.
--- A bit past the last byte is put nowhere.
+-- Bytes with one bit put at a position: the bits before it stay, the rest of its byte is zero, other bytes
+-- stay. A bit past the last byte is put nowhere.
 unfoldable pub putBit : (bytes : List ℕ) (at b : ℕ) → List ℕ
 putBit bytes at b = set bytes (at / 8) (putInByte (getD bytes (at / 8) 0) (at % 8) b)
 

@@ -3,7 +3,6 @@ use Prim.Native.Nat.{ℕ, _+_, _*_, _^_, _≤_, _<_}
 use mathlib.Core.List.{List}
 use lib.ListN.{length}
 use Rattle.bits.specs.Bits.{bitsOf, field}
-use Rattle.bits.specs.declared.Cursor.{Cursor}
 use Rattle.bits.specs.declared.FieldRead.{FieldRead}
 
 -- a position and a width at which the cursor's arithmetic fits a word

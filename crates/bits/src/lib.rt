@@ -1,7 +1,7 @@
-// Fields of bits in bytes, most significant bit first. A cursor holds a bit position and moves on by the field's
-// width; a field is read or appended a byte at a time.
+// Fields of bits in bytes, most significant bit first. A cursor holds a bit position and moves on by the
+// field's width; a field is read or appended a byte at a time.
 ghost use mathlib.Core.Path.{_≡_};
-ghost use Prim.Native.Nat.{_+_, _-_, _*_, _^_, _<_, _≤_};
+ghost use Prim.Native.Nat.{_+_, _-_, _^_, _<_};
 ghost use Rattle.bits.specs.Bits.{bitsOf, fieldBits, field, whole, putBits};
 ghost use Rattle.bits.specs.Cursors.{Fitting, Room, fieldRead};
 

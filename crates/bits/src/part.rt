@@ -2,7 +2,6 @@
 ghost use mathlib.Core.Path.{_≡_};
 ghost use Prim.Native.Nat.{_+_, _-_, _*_, _^_, _/_, _%_, _<_, _≤_, min};
 ghost use Rattle.bits.specs.Bits.{fieldBits, field, putBits};
-ghost use lib.ListN.{length};
 
 pub fn least(a: usize, b: usize) -> usize
     ensures { λ r. ⌜ r ≡ min a b ⌝ }

@@ -17,7 +17,7 @@ use borrow.Author.Count.{below-more}
 use Rattle.job.specs.declared.groups.Span.{Span}
 use Rattle.job.proofs.Sizes.{product-within}
 use Rattle.rules.proofs.Fitting.{one-more}
-use Rattle.tree.proofs.Marked.{set-at}
+use Rattle.tree.proofs.Spots.{set-at}
 use Rattle.rules.proofs.Lists.{Filled, filled-none, filled-turn}
 use Rattle.bounds.specs.Bounds.{SmallBounds}
 use Rattle.bounds.specs.Fills.{cheapestOf, leaves, axisFilled}

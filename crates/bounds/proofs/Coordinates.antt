@@ -1,7 +1,8 @@
 -- A vertex and a move by coordinates.
 --     vertex-fields                            the coordinates of a vertex lie in their fields' ranges
 --     Changed, changed                         a move changes one coordinate by one
---     bound-along, bound-across, bound-via     the bound of the vertex entered, by the coordinates of the one left
+--     bound-along, bound-across, bound-via     the bound of the vertex entered, by the coordinates of the one
+--                                              left
 --     small-sum, bare-small                    what is left is small, and in an array of zeros
 use Prim.Native.Nat.{ℕ, zero, suc, _+_, _-_, _*_, _%_, _^_, _≤_, _<_}
 use mathlib.Core.Path.{_≡_, refl, sym, ap, _∙_}

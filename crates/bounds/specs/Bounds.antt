@@ -1,4 +1,5 @@
--- A lower bound on what is left from a vertex to the nearest unjoined pin, times 15, as the code holds it: an entry for each row, column and layer.
+-- A lower bound on what is left from a vertex to the nearest unjoined pin, times 15, as the code holds it: an
+-- entry for each row, column and layer.
 --     boundOf, boundAt     what is left at least, by coordinates and by the vertex's number
 --     SmallBounds          so small that the code's sums fit
 --     Bounding             it is such a bound
@@ -15,8 +16,8 @@ use Rattle.rules.specs.Prices.{Tech}
 use Rattle.rules.specs.Steps.{step, priced}
 use Rattle.rules.specs.Places.{GoodPlace}
 
--- what a row, a column and a layer leave: rows begin at 1, columns at 258, layers at 516, so that one less or one more than a coordinate stays
--- in the array
+-- what a row, a column and a layer leave: rows begin at 1, columns at 258, layers at 516, so that one less or
+-- one more than a coordinate stays in the array
 abbrev pub boundOf : (bounds : List ℕ) → Vertex → ℕ
 boundOf bounds x = getD bounds (1 + x .row) 0 + (getD bounds (258 + x .column) 0 + getD bounds (516 + x .layer) 0)
 
@@ -27,7 +28,8 @@ boundAt g bounds v = boundOf bounds (vertexBy g v)
 unfoldable pub SmallBounds : (bounds : List ℕ) → Type 0
 SmallBounds bounds = (k : ℕ) → getD bounds k 0 ≤ 2 ^ 22
 
--- nothing is left at an unjoined pin, no move lowers what is left by more than 15 times its price, and all of it is small
+-- nothing is left at an unjoined pin, no move lowers what is left by more than 15 times its price, and all of
+-- it is small
 pub record Bounding (t : Tech) (spots bounds : List ℕ) : Type 0 where
   pub none : (v : ℕ) → v < vertices (t .grid) → getD spots v 0 ≡ 2 → boundAt (t .grid) bounds v ≡ 0
   pub nearer : (view : View) {p q : Place} (m : ℕ) {c : ℕ} → GoodPlace t p → priced (step t view p m) ≡ to c q

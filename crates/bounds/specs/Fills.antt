@@ -1,9 +1,11 @@
 -- How the bound is made: the box of the unjoined pins, the cheapest prices, and a table filled from both.
 --     Among                          every unjoined pin is one of the net's pins
---     spanWith, boxWith              a span that takes in one more coordinate, a box that takes in one more vertex
+--     spanWith, boxWith              a span that takes in one more coordinate, a box that takes in one more
+--                                    vertex
 --     nowhere, unjoinedBox           the empty span, and the box of the unjoined ones of the first pins
 --     cheapestOf                     the lowest of the first prices
---     leaves, axisFilled, filled     what a coordinate leaves, a table with the entries of an axis, and with those of all three
+--     leaves, axisFilled, filled     what a coordinate leaves, a table with the entries of an axis, and with
+--                                    those of all three
 use Prim.Native.Nat.{ℕ, zero, suc, _+_, _-_, _*_, _<_, min, max}
 use mathlib.Core.Path.{_≡_}
 use mathlib.Core.List.{List}
@@ -67,7 +69,8 @@ unfoldable pub axisFilled : Span → (price first count : ℕ) → (before : Lis
 axisFilled span price first zero before = before
 axisFilled span price first (suc n) before = set (axisFilled span price first n before) (first + n) (leaves span price n)
 
--- with the entries of all rows, columns and layers: a step costs at least the cheapest wire, and no via leads up from the top layer
+-- with the entries of all rows, columns and layers: a step costs at least the cheapest wire, and no via leads
+-- up from the top layer
 unfoldable pub filled : Tech → (spots pins : List ℕ) → (count : ℕ) → (before : List ℕ) → List ℕ
 filled t spots pins count before =
     let box = unjoinedBox (gridOf (t .grid)) spots pins count in

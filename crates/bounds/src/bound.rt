@@ -1,4 +1,5 @@
-// What is left at least from a vertex, times 15: an entry for each row from 1 on, for each column from 258 on, for each layer from 516 on.
+// What is left at least from a vertex, times 15: an entry for each row from 1 on, for each column from 258
+// on, for each layer from 516 on.
 ghost use mathlib.Core.Path.{_≡_};
 ghost use Prim.Native.Nat.{ℕ, _+_, _<_};
 ghost use lib.ListN.{getD};
@@ -35,7 +36,8 @@ pub fn bound_at(bounds: &[u64; 528], grid: Grid, v: usize) -> u64
     bound_of(bounds, vertex_by(grid, v))
 }
 
-// The bound of the vertex that a move enters, if it enters one: low and down take one off a coordinate, high and up add one.
+// The bound of the vertex that a move enters, if it enters one: low and down take one off a coordinate, high
+// and up add one.
 pub fn bound_entered(bounds: &[u64; 528], grid: Grid, from: Vertex, number: usize) -> u64
     requires { ⌜ (SmallBounds (now bounds)) × (Small grid) × (InFields from) ⌝ }
     ensures { λ r. ⌜ ((v w : ℕ) → v < vertices (gridOf grid) → from ≡ vertexStruct (vertexBy (gridOf grid) v)

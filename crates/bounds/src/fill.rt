@@ -91,7 +91,8 @@ fn cheapest(prices: [usize; 8], count: usize) -> usize
     price
 }
 
-// What a coordinate leaves: the steps to the span at a price, times 15, so that a search that counts each cost 16 times still pays 1 for each move.
+// What a coordinate leaves: the steps to the span at a price, times 15, so that a search that counts each
+// cost 16 times still pays 1 for each move.
 fn left_at(span: Span, price: usize, at: usize) -> u64
     requires { ⌜ (span .low ≤ 255) × (price < 1024) × (at < 256) ⌝ }
     ensures { λ r. ⌜ r ≡ leaves span price at ⌝ }

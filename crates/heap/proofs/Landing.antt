@@ -1,5 +1,5 @@
--- An item put at a place of the heap: L is the slice with the item there.
---     Around                      every place but one is seated
+-- An item put at a seat of the heap: L is the slice with the item there.
+--     Around                      every seat but one has its item
 --     around-seated               with the item there all are
 --     around-key, around-own      the keys beside it, and its own
 --     around-in                   the item is in the heap
@@ -13,7 +13,7 @@ use Rattle.heap.specs.Heaps.{greatestKey, keyOf, slotOf, wordOf, In, ite
 use Rattle.heap.specs.Sifts.{placed}
 use Rattle.heap.proofs.Words.{key-word, slot-word, placed-long, placed-item, placed-agree, placed-word, placed-other}
 
--- every place but one is seated, with items other than the one that is to be put there
+-- every seat but one has its item, with items other than the one that is to be put there
 pub record Around (n size at item : ℕ) (work : List ℕ) : Type 0 where
   pub room : n + n ≤ length work
   pub few : n ≤ 524288
@@ -57,13 +57,13 @@ module _ {n size at item : ℕ} (work : List ℕ) (key : ℕ) (a : Around n size
   pub around-word-other : (c : ℕ) → c < n → (c ≡ item → ⊥) → getD (placed work n at item key) c 0 ≡ getD work c 0
   around-word-other c h e = placed-other work n at item key c e (omega arith)
 
-  -- and so is another place
-  around-place : (i : ℕ) → (i ≡ at → ⊥) → getD (placed work n at item key) (n + i) 0 ≡ getD work (n + i) 0
-  around-place i e = placed-other work n at item key (n + i) (omega (arith, a .known)) (omega arith)
+  -- and so is another seat
+  around-seat : (i : ℕ) → (i ≡ at → ⊥) → getD (placed work n at item key) (n + i) 0 ≡ getD work (n + i) 0
+  around-seat i e = placed-other work n at item key (n + i) (omega (arith, a .known)) (omega arith)
 
   -- with its item
   around-item-other : (i : ℕ) → (i ≡ at → ⊥) → itemAt (placed work n at item key) n i ≡ itemAt work n i
-  around-item-other i e = ap slotOf (around-place i e)
+  around-item-other i e = ap slotOf (around-seat i e)
 
   -- with its entry
   around-entry : (i : ℕ) → i < size → (i ≡ at → ⊥) → getD (placed work n at item key) (itemAt (placed work n at item key) n i) 0 ≡ getD work (itemAt work n i) 0
@@ -75,7 +75,7 @@ module _ {n size at item : ℕ} (work : List ℕ) (key : ℕ) (a : Around n size
   pub around-key : (i : ℕ) → i < size → (i ≡ at → ⊥) → keyAt (placed work n at item key) n i ≡ keyAt work n i
   around-key i h e = ap keyOf (around-entry i h e)
 
-  -- all places are seated
+  -- all seats have their items
   pub around-seated : 0 < key → key ≤ greatestKey → Seated n size (placed work n at item key)
   around-seated p small =
       record {
@@ -110,7 +110,7 @@ module _ {n size at item : ℕ} (work : List ℕ) (key : ℕ) (a : Around n size
       agree : (i : ℕ) → i < size → Dec (i ≡ at) → keyOf (getD (placed work n at item key) (n + i) 0) ≡ keyAt (placed work n at item key) n i
       agree i h (yes e) =
           rw e (placed-agree work n at item key (omega (arith, a .room, a .fits, a .on)) (omega (arith, a .known, a .few)) ∙ sym around-own)
-      agree i h (no e) = ap keyOf (around-place i e) ∙ a .agree i h e ∙ sym (around-key i h e)
+      agree i h (no e) = ap keyOf (around-seat i e) ∙ a .agree i h e ∙ sym (around-key i h e)
 
       seat : (c : ℕ) → c < n → In (placed work n at item key) n c → Dec (c ≡ item)
           → (slotOf (getD (placed work n at item key) c 0) < size) × (itemAt (placed work n at item key) n (slotOf (getD (placed work n at item key) c 0)) ≡ c)

@@ -1,9 +1,11 @@
 -- What callers lean on.
 --     heaped-none                   where no entry was touched there is an empty heap
 --     heaped-as, heaped-store       what is past the heap does not matter, so that the caller may store there
---     heaped-least, removed-key       the item at the front has the least key, and the one that is taken has that key
---     lowered-left, removed-left      no item gets into the heap but the one that is put in
---     room-both, room-beside        different items that are not in the heap have room beside it, and so has one more
+--     heaped-least, removed-key     the item at the front has the least key, and the one that is taken has
+--                                   that key
+--     lowered-left, removed-left    no item gets into the heap but the one that is put in
+--     room-both, room-beside        different items that are not in the heap have room beside it, and so has
+--                                   one more
 use Prim.Native.Nat.{ℕ, _+_, _-_, _≤_, _<_}
 use mathlib.Core.Path.{_≡_, sym, ap, _∙_}
 use mathlib.Core.Bool.{cond}
@@ -44,7 +46,7 @@ heaped-none {n} {work} room few bare =
 
 module _ {n size : ℕ} {work : List ℕ} (left : List ℕ) (h : Heaped n size work) (long : length left ≡ length work)
     (same : (j : ℕ) → j < n + size → getD left j 0 ≡ getD work j 0) where
-  -- an item at a place, and its entry
+  -- an item at a seat, and its entry
   same-item : (i : ℕ) → i < size → itemAt left n i ≡ itemAt work n i
   same-item i l = ap slotOf (same (n + i) (omega arith))
 

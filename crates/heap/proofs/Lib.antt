@@ -1,13 +1,14 @@
 -- The laws of the heap.
 --     Words        its words, and stores to them
---     Orders       its order, told by the key at each place
---     Swaps        two places swap their items
+--     Orders       its order, told by the key at each seat
+--     Swaps        two seats swap their items
 --     Tests        what the code's tests tell
 --     Sifting      the loops
---     Landing      an item put at a place
+--     Landing      an item put at a seat
 --     Pigeons      a pigeonhole
 --     Lowering     an item put in, or its distance lowered
---     Taking       the item at the front taken out
+--     Leaving      the item at the front leaves
+--     Taking       the item at the front taken out, and the last put in its seat
 --     Laws         what callers lean on
 pub mod Words
 pub mod Orders
@@ -17,5 +18,6 @@ pub mod Sifting
 pub mod Landing
 pub mod Pigeons
 pub mod Lowering
+pub mod Leaving
 pub mod Taking
 pub mod Laws

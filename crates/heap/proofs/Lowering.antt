@@ -1,8 +1,8 @@
 -- An item put in, or its distance lowered where it stands: w is the slice as found.
---     room-for                 there is room for an item that is not in the heap
---     new-lifted, new-lowered           an item that was never touched
---     better-lifted, better-lowered     one in the heap with a greater key
---     same-lowered                      any other
+--     room-for                         there is room for an item that is not in the heap
+--     new-lifted, new-lowered          an item that was never touched
+--     better-lifted, better-lowered    one in the heap with a greater key
+--     same-lowered                     any other
 use Prim.Native.Nat.{ℕ, _+_, _≤_, _<_}
 use mathlib.Core.Path.{_≡_, refl, sym, ap, _∙_}
 use mathlib.Core.List.{List}
@@ -21,7 +21,7 @@ pub room-for : {n size : ℕ} {w : List ℕ} {item : ℕ} → Seated n size w �
 room-for {n} {size} {w} {item} s known out =
     pigeons-miss n size (λ i. itemAt w n i) item (s .items) (λ i j h l e. seat-once s h l e) known (λ i h e. out (rw e at (seat-in s h)))
 
--- ---- what an item that is put at a place changes
+-- ---- what an item that is put at a seat changes
 
 module _ {n now at item : ℕ} (distance : ℕ) {w work : List ℕ} (a : Around n now at item w) (s : Sifted n now (placed w n at item (distance + 1)) work) where
   -- the item is in the heap with the distance
@@ -56,7 +56,7 @@ module _ {n size item : ℕ} (distance : ℕ) {w : List ℕ} (h : Heaped n size 
   new-out : In w n item → ⊥
   new-out o = omega (arith, o .touched)
 
-  -- nor at any place
+  -- nor at any seat
   new-other : (i : ℕ) → i < size → itemAt w n i ≡ item → ⊥
   new-other i l e = new-out (rw e at (seat-in (h .seated) l))
 
@@ -125,7 +125,7 @@ module _ {n size item : ℕ} (distance : ℕ) {w : List ℕ} (h : Heaped n size 
         seats = λ c l e p. s .seats c l p;
       }
 
-  -- its key was what it is at its place
+  -- its key was what it is at its seat
   own-was : keyAt w n (slotOf (getD w item 0)) ≡ keyOf (getD w item 0)
   own-was = ap (λ c. keyOf (getD w c 0)) (h .seated .seats item known o)
 

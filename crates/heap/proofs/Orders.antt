@@ -1,7 +1,7 @@
--- The order of the heap, told by the key k at each place. Two places swap their keys: k before, l after.
+-- The order of the heap, told by the key k at each seat. Two seats swap their keys: k before, l after.
 --     Swap                          the two keys swapped, and the others as they were
---     rising-on, sinking-on         the item that is out of order has gone a place up, or down
---     rising-done, sinking-done     it has found its place
+--     rising-on, sinking-on         the item that is out of order has gone a seat up, or down
+--     rising-done, sinking-done     it has found its seat
 --     least-first                   the key at the front is the least
 use Prim.Native.Nat.{ℕ, zero, suc, _≤_, _<_}
 use mathlib.Core.Path.{_≡_}
@@ -11,7 +11,7 @@ use native.Mathlib.Decide.{ℕ-discrete}
 use Rattle.heap.specs.Heaps.{above}
 use Rattle.heap.specs.Sifts.{Rising, Sinking}
 
--- the keys at two places swapped
+-- the keys at two seats swapped
 pub record Swap (size a b : ℕ) (k l : ℕ → ℕ) : Type 0 where
   pub first : l a ≡ k b
   pub second : l b ≡ k a
@@ -19,7 +19,7 @@ pub record Swap (size a b : ℕ) (k l : ℕ → ℕ) : Type 0 where
 
 module _ {size : ℕ} {k : ℕ → ℕ} where
   module _ {at : ℕ} {l : ℕ → ℕ} (r : Rising size at k) (low : 0 < at) (less : k at < k (above at)) (s : Swap size at (above at) k l) where
-    -- the order after a swap with the place above
+    -- the order after a swap with the seat above
     rising-order : (i : ℕ) → 0 < i → i < size → (i ≡ above at → ⊥) → Dec (i ≡ at) → Dec (above i ≡ at) → Dec (above i ≡ above at) → l (above i) ≤ l i
     rising-order i p h e (yes f) x y = rw f (omega (arith, s .first, s .second))
     rising-order i p h e (no f) (yes g) y = rw g (omega (arith, s .first, s .others i h f e, r .span i low p h g))
@@ -33,7 +33,7 @@ module _ {size : ℕ} {k : ℕ → ℕ} where
     rising-span i q p h e (no f) =
         omega (arith, s .others i h f (omega arith), s .others (above (above at)) (omega (arith, r .known)) (omega arith) (omega arith), r .order (above at) q (omega (arith, r .known)) (omega arith), rw e at (r .order i p h f))
 
-    -- the item has gone a place up
+    -- the item has gone a seat up
     pub rising-on : Rising size (above at) l
     rising-on =
         record {
@@ -42,7 +42,7 @@ module _ {size : ℕ} {k : ℕ → ℕ} where
           span = λ i q p h e. rising-span i q p h e (ℕ-discrete i at);
         }
 
-  -- it has found its place
+  -- it has found its seat
   pub rising-done : {at : ℕ} → Rising size at k → (0 < at → k (above at) ≤ k at) → (i : ℕ) → 0 < i → i < size → k (above i) ≤ k i
   rising-done {at} r stop i p h = by (ℕ-discrete i at)
     where
@@ -52,7 +52,7 @@ module _ {size : ℕ} {k : ℕ → ℕ} where
 
   module _ {at child : ℕ} {l : ℕ → ℕ} (r : Sinking size at k) (low : at < child) (known : child < size) (of : above child ≡ at)
       (least : (i : ℕ) → 0 < i → i < size → above i ≡ at → k child ≤ k i) (less : k child < k at) (s : Swap size at child k l) where
-    -- the order after a swap with the lesser place below
+    -- the order after a swap with the lesser seat below
     sinking-order : (i : ℕ) → 0 < i → i < size → (above i ≡ child → ⊥) → Dec (i ≡ at) → Dec (i ≡ child) → Dec (above i ≡ at) → l (above i) ≤ l i
     sinking-order i p h e (yes f) g x =
         rw f (omega (arith, s .first, s .others (above at) (omega (arith, r .known)) (omega arith) (omega arith), r .span child (omega arith) (omega arith) known of))
@@ -60,7 +60,7 @@ module _ {size : ℕ} {k : ℕ → ℕ} where
     sinking-order i p h e (no f) (no g) (yes x) = rw x (omega (arith, s .first, s .others i h f g, least i p h x))
     sinking-order i p h e (no f) (no g) (no x) = omega (arith, s .others i h f g, s .others (above i) (omega arith) x e, r .order i p h x)
 
-    -- the item has gone a place down
+    -- the item has gone a seat down
     pub sinking-on : Sinking size child l
     sinking-on =
         record {
@@ -70,7 +70,7 @@ module _ {size : ℕ} {k : ℕ → ℕ} where
               rw of (omega (arith, s .first, s .others i h (omega arith) (omega arith), rw e at (r .order i p h (omega arith))));
         }
 
-  -- it has found its place
+  -- it has found its seat
   pub sinking-done : {at : ℕ} → Sinking size at k → ((i : ℕ) → 0 < i → i < size → above i ≡ at → k at ≤ k i)
       → (i : ℕ) → 0 < i → i < size → k (above i) ≤ k i
   sinking-done {at} r stop i p h = by (ℕ-discrete (above i) at)

@@ -1,7 +1,7 @@
--- The loops. While an item finds its place, that place is a hole: L is the slice with the item put there.
+-- The loops. While an item finds its seat, that seat is a hole: L is the slice with the item put there.
 --     hole-item, hole-key, own-key       items and keys beside the hole, and in it
 --     hole-held                          what the tests ask
---     hole-swapped                       the hole moves: in L two places have swapped their items
+--     hole-swapped                       the hole moves: in L two seats have swapped their items
 --     Climbing, climbing-..              the loop of sift_up
 --     Falling, falling-..                the loop of sift_down
 use Prim.Native.Nat.{ℕ, _+_, _≤_, _<_}
@@ -42,11 +42,11 @@ module _ {n size : ℕ} (work : List ℕ) (at item key : ℕ) (s : Seated n size
 
   module _ (i : ℕ) (h : i < size) (e : i ≡ at → ⊥) where
     -- elsewhere the item is the same
-    hole-place : getD work (n + i) 0 ≡ getD (placed work n at item key) (n + i) 0
-    hole-place = sym (placed-other work n at item key (n + i) (omega arith) (omega arith))
+    hole-seat : getD work (n + i) 0 ≡ getD (placed work n at item key) (n + i) 0
+    hole-seat = sym (placed-other work n at item key (n + i) (omega arith) (omega arith))
 
     pub hole-item : itemAt work n i ≡ itemAt (placed work n at item key) n i
-    hole-item = ap slotOf hole-place
+    hole-item = ap slotOf hole-seat
 
     -- and is another
     hole-other : itemAt (placed work n at item key) n i ≡ item → ⊥
@@ -58,9 +58,9 @@ module _ {n size : ℕ} (work : List ℕ) (at item key : ℕ) (s : Seated n size
         ap (λ c. keyOf (getD work c 0)) hole-item
         ∙ ap keyOf (sym (placed-other work n at item key (itemAt (placed work n at item key) n i) hole-other (omega (arith, s .items i h))))
 
-    -- which stands at the place
+    -- which stands at the seat
     hole-agree : keyOf (getD work (n + i) 0) ≡ keyAt work n i
-    hole-agree = ap keyOf hole-place ∙ s .agree i h ∙ sym hole-key
+    hole-agree = ap keyOf hole-seat ∙ s .agree i h ∙ sym hole-key
 
   -- what the tests ask
   pub hole-held : Held n size at work
@@ -102,7 +102,7 @@ module _ {n size : ℕ} (work : List ℕ) (at item key : ℕ) (s : Seated n size
           word-second =
               rw (sym (hole-key b hb e), sym same)
               (placed-other next n b item key q other (omega arith) ∙ placed-word work n at q k below (omega arith));
-          places = λ i x y.
+          seats = λ i x y.
               placed-other next n b item key (n + i) (omega arith) (omega arith)
               ∙ placed-other work n at q k (n + i) (omega arith) (omega arith)
               ∙ sym (placed-other work n at item key (n + i) (omega arith) (omega arith));
@@ -146,7 +146,7 @@ module _ {n size item key : ℕ} {found work : List ℕ} {at : ℕ} (c : Climbin
   climbing-asked t told =
       hole-shift work at item key (c .seated) (c .rising .known) (c .known) (above at) (omega (arith, c .rising .known)) (omega (arith, t .yes-low told))
 
-  -- a place up
+  -- a seat up
   pub climbing-on : {left : List ℕ} {r : Bool} → Climbs n at key work r → r ≡ true → left ≡ placed work n at (itemAt work n (above at)) (keyAt work n (above at))
       → Climbing n size item key found left (above at)
   climbing-on {left} t told e =
@@ -176,7 +176,7 @@ module _ {n size item key : ℕ} {found work : List ℕ} {at : ℕ} (c : Climbin
       swapped : Swapped n at (above at) (placed work n at item key) (placed (placed work n at (itemAt work n (above at)) (keyAt work n (above at))) n (above at) item key)
       swapped = hole-swapped work at item key s on (c .known) (above at) up away
 
-  -- in its place
+  -- in its seat
   pub climbing-done : {left : List ℕ} {r : Bool} → Climbs n at key work r → r ≡ false → left ≡ placed work n at item key → Sifted n size found left
   climbing-done {left} t told e =
       rw e
@@ -222,7 +222,7 @@ module _ {n size item key : ℕ} {found work : List ℕ} {at : ℕ} (c : Falling
   pub falling-asked : {child : ℕ} → Least n size at work child → ShiftAsked n child at work
   falling-asked {child} l = hole-shift work at item key (c .seated) (c .sinking .known) (c .known) child (l .known) (omega (arith, l .low))
 
-  -- a place down
+  -- a seat down
   pub falling-on : {left : List ℕ} {child : ℕ} {r : Bool} → Sinks n size at key work r → r ≡ true → Least n size at work child
       → left ≡ placed work n at (itemAt work n child) (keyAt work n child) → Falling n size item key found left child
   falling-on {left} {child} t told l e =
@@ -261,7 +261,7 @@ module _ {n size item key : ℕ} {found work : List ℕ} {at : ℕ} (c : Falling
       swapped : Swapped n at child (placed work n at item key) (placed (placed work n at (itemAt work n child) (keyAt work n child)) n child item key)
       swapped = hole-swapped work at item key s on (c .known) child h away
 
-  -- in its place
+  -- in its seat
   pub falling-done : {left : List ℕ} {r : Bool} → Sinks n size at key work r → r ≡ false → left ≡ placed work n at item key → Sifted n size found left
   falling-done {left} t told e =
       rw e

@@ -1,8 +1,8 @@
--- Two places of the heap swap their items: L before, M after.
---     seat-once, seat-in          an item stands at one place only, and is in the heap
+-- Two seats of the heap swap their items: L before, M after.
+--     seat-once, seat-in          an item stands at one seat only, and is in the heap
 --     Swapped                     the two words of the heap and the two entries
---     swapped-keys                the keys at the places are swapped
---     swapped-seated              each item still knows its place
+--     swapped-keys                the keys at the seats are swapped
+--     swapped-seated              each item still knows its seat
 --     swapped-moved               nothing else has changed
 use Prim.Native.Nat.{ℕ, _+_, _-_, _≤_, _<_}
 use mathlib.Core.Path.{_≡_, sym, ap, _∙_}
@@ -16,7 +16,7 @@ use Rattle.heap.proofs.Words.{key-word, slot-word}
 use Rattle.heap.proofs.Orders.{Swap}
 
 module _ {n size : ℕ} {L : List ℕ} (s : Seated n size L) where
-  -- an item stands at one place only
+  -- an item stands at one seat only
   pub seat-once : {i j : ℕ} → i < size → j < size → itemAt L n i ≡ itemAt L n j → i ≡ j
   seat-once {i} {j} h l e = sym (s .slots i h) ∙ ap (λ c. slotOf (getD L c 0)) e ∙ s .slots j l
 
@@ -33,13 +33,13 @@ pub record Swapped (n a b : ℕ) (L M : List ℕ) : Type 0 where
   pub word-second : getD M (itemAt L n b) 0 ≡ wordOf (keyAt L n b) a
   pub agree-first : keyOf (getD M (n + a) 0) ≡ keyAt L n b
   pub agree-second : keyOf (getD M (n + b) 0) ≡ keyAt L n a
-  pub places : (i : ℕ) → (i ≡ a → ⊥) → (i ≡ b → ⊥) → getD M (n + i) 0 ≡ getD L (n + i) 0
+  pub seats : (i : ℕ) → (i ≡ a → ⊥) → (i ≡ b → ⊥) → getD M (n + i) 0 ≡ getD L (n + i) 0
   pub words : (c : ℕ) → c < n → (c ≡ itemAt L n a → ⊥) → (c ≡ itemAt L n b → ⊥) → getD M c 0 ≡ getD L c 0
 
 module _ {n size a b : ℕ} {L M : List ℕ} (s : Seated n size L) (ha : a < size) (hb : b < size) (w : Swapped n a b L M) where
-  -- the item at another place
+  -- the item at another seat
   other-item : (i : ℕ) → (i ≡ a → ⊥) → (i ≡ b → ⊥) → itemAt M n i ≡ itemAt L n i
-  other-item i e f = ap slotOf (w .places i e f)
+  other-item i e f = ap slotOf (w .seats i e f)
 
   -- the entry of the first item, and of the second
   first-key : keyOf (getD M (itemAt L n a) 0) ≡ keyAt L n a
@@ -72,7 +72,7 @@ module _ {n size a b : ℕ} {L M : List ℕ} (s : Seated n size L) (ha : a < siz
       by (no e) (yes f) = rw f (record { touched = omega (arith, second-key, s .touched b hb); placed = omega (arith, second-slot, s .fits) })
       by (no e) (no f) = rw (w .words c h e f) o
 
-  -- the keys at the two places are swapped
+  -- the keys at the two seats are swapped
   pub swapped-keys : Swap size a b (keyAt L n) (keyAt M n)
   swapped-keys =
       record {
@@ -81,7 +81,7 @@ module _ {n size a b : ℕ} {L M : List ℕ} (s : Seated n size L) (ha : a < siz
         others = λ i h e f. ap (λ c. keyOf (getD M c 0)) (other-item i e f) ∙ key-kept (itemAt L n i) (s .items i h);
       }
 
-  -- the item at a place is known
+  -- the item at a seat is known
   item-known : (i : ℕ) → i < size → itemAt M n i < n
   item-known i h = by (ℕ-discrete i a) (ℕ-discrete i b)
     where
@@ -99,7 +99,7 @@ module _ {n size a b : ℕ} {L M : List ℕ} (s : Seated n size L) (ha : a < siz
       by (no e) (yes f) = rw (f, swapped-keys .second) (s .touched a ha)
       by (no e) (no f) = rw (swapped-keys .others i h e f) (s .touched i h)
 
-  -- and knows its place
+  -- and knows its seat
   item-slot : (i : ℕ) → i < size → slotOf (getD M (itemAt M n i) 0) ≡ i
   item-slot i h = by (ℕ-discrete i a) (ℕ-discrete i b)
     where
@@ -109,14 +109,14 @@ module _ {n size a b : ℕ} {L M : List ℕ} (s : Seated n size L) (ha : a < siz
       by (no e) (no f) =
           rw (other-item i e f) (ap slotOf (w .words (itemAt L n i) (s .items i h) (λ x. e (seat-once s h ha x)) (λ x. f (seat-once s h hb x))) ∙ s .slots i h)
 
-  -- a place has the key of its item
+  -- a seat has the key of its item
   item-agree : (i : ℕ) → i < size → keyOf (getD M (n + i) 0) ≡ keyAt M n i
   item-agree i h = by (ℕ-discrete i a) (ℕ-discrete i b)
     where
       by : Dec (i ≡ a) → Dec (i ≡ b) → keyOf (getD M (n + i) 0) ≡ keyAt M n i
       by (yes e) f = rw e (w .agree-first ∙ sym (swapped-keys .first))
       by (no e) (yes f) = rw f (w .agree-second ∙ sym (swapped-keys .second))
-      by (no e) (no f) = ap keyOf (w .places i e f) ∙ s .agree i h ∙ sym (swapped-keys .others i h e f)
+      by (no e) (no f) = ap keyOf (w .seats i e f) ∙ s .agree i h ∙ sym (swapped-keys .others i h e f)
 
   -- an item in the heap stands at its slot
   item-seat : (c : ℕ) → c < n → In M n c → (slotOf (getD M c 0) < size) × (itemAt M n (slotOf (getD M c 0)) ≡ c)
@@ -131,7 +131,7 @@ module _ {n size a b : ℕ} {L M : List ℕ} (s : Seated n size L) (ha : a < siz
           let seat = s .seats c h was in
           rw same (s .within c h was, other-item (slotOf (getD L c 0)) (λ x. e (sym seat ∙ ap (λ i. itemAt L n i) x)) (λ x. f (sym seat ∙ ap (λ i. itemAt L n i) x)) ∙ seat)
 
-  -- each item still knows its place
+  -- each item still knows its seat
   pub swapped-seated : Seated n size M
   swapped-seated =
       record {
@@ -165,4 +165,4 @@ module _ {n size a b : ℕ} {L M : List ℕ} (s : Seated n size L) (ha : a < siz
           subst-in c i e o = rw e o
 
       beyond : (j : ℕ) → n + size ≤ j → getD M j 0 ≡ getD L j 0
-      beyond j h = let place : j ≡ n + (j - n) = omega arith in rw place (w .places (j - n) (omega arith) (omega arith))
+      beyond j h = let seat : j ≡ n + (j - n) = omega arith in rw seat (w .seats (j - n) (omega arith) (omega arith))

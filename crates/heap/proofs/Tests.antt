@@ -1,11 +1,12 @@
 -- What the code's tests tell.
 --     one-is, one-small                      a test as a number
---     placed-from                            an item moved from a place, with its own key
+--     placed-from                            an item moved from a seat, with its own key
 --     climbs-front, climbs-test              whether the item above has a greater key
 --     sinks-end, sinks-test                  whether an item right below has a lesser key
---     keyed-asked, keyed-word                what reading a key or a word of places in a row asks
---     lowest-..                              the one of them with the least key: of one place, of two rows that meet, of two places, of four
---     held-keyed, lowest-least               the places right below a place are such a row
+--     keyed-asked, keyed-word                what reading a key or a word of seats in a row asks
+--     lowest-..                              the one of them with the least key: of one seat, of two rows
+--                                            that meet, of two seats, of four
+--     held-keyed, lowest-least               the seats right below a seat are such a row
 use Prim.Native.Nat.{ℕ, _+_, _*_, _≤_, _<_}
 use mathlib.Core.Path.{_≡_, refl, sym, ap, _∙_}
 use mathlib.Core.Bool.{Bool, true, false, cond}
@@ -32,7 +33,7 @@ one-small true e = omega arith
 one-small false e = omega arith
 
 module _ (work : List ℕ) (n : ℕ) where
-  -- an item moved from a place, with its own key
+  -- an item moved from a seat, with its own key
   pub placed-from : (to from : ℕ) {item key : ℕ} {left : List ℕ} → left ≡ placed work n to item key → key ≡ keyAt work n from → item ≡ itemAt work n from
       → left ≡ placed work n to (itemAt work n from) (keyAt work n from)
   placed-from to from e f g = cc
@@ -74,7 +75,7 @@ module _ (work : List ℕ) (n : ℕ) where
           no-key = λ x i p h f. omega (arith, ltb-false own key x, l .least i p h f);
         }
 
--- ---- places in a row
+-- ---- seats in a row
 
 module _ {n : ℕ} {work : List ℕ} where
   -- what reading a key asks
@@ -86,7 +87,7 @@ module _ {n : ℕ} {work : List ℕ} where
   pub keyed-word : {first end : ℕ} → Keyed n first end work → {i : ℕ} → first ≤ i → i < end → (n ≤ 524288) × (i < n) × (n + i < length work)
   keyed-word k l h = let asked = keyed-asked k l h in (asked .0, asked .1, asked .2)
 
-  -- of one place
+  -- of one seat
   pub lowest-one : (first : ℕ) {end : ℕ} → end ≡ first + 1 → Lowest n first end work first
   lowest-one first e =
       record {
@@ -115,7 +116,7 @@ module _ {n : ℕ} {work : List ℕ} where
         by p l h (no x) = omega (arith, b .least p (omega arith) h)
 
   module _ {first end : ℕ} (keyed : Keyed n first end work) where
-    -- of two of these places, with its word: the lesser word has no greater key
+    -- of two of these seats, with its word: the lesser word has no greater key
     lowest-pair : (one other : ℕ) {a b step word : ℕ} → first ≤ one → other ≡ one + 1 → other < end → a ≡ getD work (n + one) 0 → b ≡ getD work (n + other) 0
         → step ≡ cond (ltb b a) 1 0 → word ≡ cond (ltb b a) b a → (Lowest n one (one + 2) work (one + step)) × (word ≡ getD work (n + (one + step)) 0)
     lowest-pair one other {a} {b} {step} {word} from next until x y is low = by (decLt b a)
@@ -134,13 +135,13 @@ module _ {n : ℕ} {work : List ℕ} where
 
         by : Dec (b < a) → (Lowest n one (one + 2) work (one + step)) × (word ≡ getD work (n + (one + step)) 0)
         by (yes h) =
-            let place : one + step ≡ other = omega (arith, rw (lt-ltb b a h) at is) in
-            rw place (lowest-right left right (omega (arith, own, its, word-key b a (omega arith))), (rw (lt-ltb b a h) at low) ∙ y)
+            let seat : one + step ≡ other = omega (arith, rw (lt-ltb b a h) at is) in
+            rw seat (lowest-right left right (omega (arith, own, its, word-key b a (omega arith))), (rw (lt-ltb b a h) at low) ∙ y)
         by (no h) =
-            let place : one + step ≡ one = omega (arith, rw (le-ltb b a (omega arith)) at is) in
-            rw place (lowest-left left right (omega (arith, own, its, word-key a b (omega arith))), (rw (le-ltb b a (omega arith)) at low) ∙ x)
+            let seat : one + step ≡ one = omega (arith, rw (le-ltb b a (omega arith)) at is) in
+            rw seat (lowest-left left right (omega (arith, own, its, word-key a b (omega arith))), (rw (le-ltb b a (omega arith)) at low) ∙ x)
 
-    -- of four places, the lesser of the two that each pair leaves
+    -- of four seats, the lesser of the two that each pair leaves
     pub lowest-four : {a b c d i j ab cd : ℕ} → end ≡ first + 4 → a ≡ getD work (n + first) 0 → b ≡ getD work (n + (first + 1)) 0
         → c ≡ getD work (n + (first + 2)) 0 → d ≡ getD work (n + (first + 3)) 0 → i ≡ cond (ltb b a) 1 0 → j ≡ cond (ltb d c) 1 0
         → ab ≡ cond (ltb b a) b a → cd ≡ cond (ltb d c) d c
@@ -177,7 +178,7 @@ module _ {n : ℕ} {work : List ℕ} where
         key {v} {w} {x} {y} h e f in-x in-y =
             omega (arith, word-key v w h, ap keyOf e ∙ keyed .agree x (in-x .0) (in-x .1), ap keyOf f ∙ keyed .agree y (in-y .0) (in-y .1))
 
-  -- the places right below a place, as far as they are in the heap
+  -- the seats right below a seat, as far as they are in the heap
   module _ {size at end : ℕ} (in-heap : end ≤ size) where
     pub held-keyed : Held n size at work → Keyed n (4 * at + 1) end work
     held-keyed held =

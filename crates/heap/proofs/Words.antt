@@ -2,7 +2,8 @@
 --     key-word, slot-word          the key and the slot of an entry made of the two
 --     word-key                     of two words the lesser has no greater key
 --     open-or-not                  an entry's item is in the heap or not
---     placed-long, placed-item, placed-agree, placed-word, placed-other     the slice with an item put at a place, word by word
+--     placed-long, placed-item, placed-agree, placed-word, placed-other
+--         the slice with an item put at a seat, word by word
 use Prim.Native.Nat.{ℕ, _+_, _≤_, _<_}
 use mathlib.Core.Path.{_≡_, ap, _∙_}
 use mathlib.Core.List.{List}
@@ -38,7 +39,7 @@ open-or-not n word = by (decLt 0 (keyOf word)) (decLt (slotOf word) n)
     by (yes t) (no p) = no (λ o. p (o .placed))
     by (no t) p = no (λ o. t (o .touched))
 
--- ---- an item put at a place
+-- ---- an item put at a seat
 
 module _ (work : List ℕ) (n at item key : ℕ) where
   -- the slice is as long
@@ -46,19 +47,19 @@ module _ (work : List ℕ) (n at item key : ℕ) where
   unfolding placed
   placed-long = simp length-set
 
-  -- the item is at the place
-  placed-place : n + at < length work → getD (placed work n at item key) (n + at) 0 ≡ wordOf key item
+  -- the item is at the seat
+  placed-seat : n + at < length work → getD (placed work n at item key) (n + at) 0 ≡ wordOf key item
   unfolding placed
-  placed-place h = getD-set-same (set work item (wordOf key at)) (n + at) (wordOf key item) 0 (simp length-set (omega arith))
+  placed-seat h = getD-set-same (set work item (wordOf key at)) (n + at) (wordOf key item) 0 (simp length-set (omega arith))
 
   pub placed-item : n + at < length work → item < 1048576 → itemAt (placed work n at item key) n at ≡ item
-  placed-item h l = ap slotOf (placed-place h) ∙ slot-word key item l
+  placed-item h l = ap slotOf (placed-seat h) ∙ slot-word key item l
 
   -- with its key
   pub placed-agree : n + at < length work → item < 1048576 → keyOf (getD (placed work n at item key) (n + at) 0) ≡ key
-  placed-agree h l = ap keyOf (placed-place h) ∙ key-word key item l
+  placed-agree h l = ap keyOf (placed-seat h) ∙ key-word key item l
 
-  -- its entry has the key and the place
+  -- its entry has the key and the seat
   pub placed-word : item < n → n ≤ length work → getD (placed work n at item key) item 0 ≡ wordOf key at
   unfolding placed
   placed-word h l =

@@ -1,16 +1,17 @@
--- An indexed heap in a lent slice of words, over n items numbered from 0. Word c (c < n) is the entry of item c: its key and its slot. The
--- key is 0 where the item was never touched, else its distance and 1; the slot is the item's place in the heap, or n or more where it has
--- left it (it is settled). Word n + i is for place i of the heap: the key of the item there, and in the slot's stead its number, so that keys are
--- compared in the heap's words alone. What the items are is not said here.
---     slots, settledSlot, mostItems, greatestKey     the sizes of an entry's parts
---     keyOf, slotOf, wordOf     the key and the slot of an entry, and an entry of the two
---     itemAt, keyAt             the item at a place, and its key
---     above                     the place above a place: four places are below each
---     Open, In                  an entry's item is in the heap
---     Seated                    each item of the heap knows its place
---     Heaped                    and none has a lesser key than the one above it
---     Lowered                   what `lower` does
---     Removed                     what `remove_least` does
+-- An indexed heap in a lent slice of words, over n items numbered from 0. Word c (c < n) is the entry of item
+-- c: its key and its slot. The key is 0 where the item was never touched, else its distance and 1; the slot
+-- is the item's seat in the heap, or n or more where it has left it (it is settled). Word n + i is for seat i
+-- of the heap: the key of the item there, and in the slot's stead its number, so that keys are compared in
+-- the heap's words alone. What the items are is not said here.
+--     slots, settledSlot, mostItems, greatestKey    the sizes of an entry's parts
+--     keyOf, slotOf, wordOf                         the key and the slot of an entry, and an entry of the two
+--     itemAt, keyAt                                 the item at a seat, and its key
+--     above                                         the seat above a seat: four seats are below each
+--     Open, In                                      an entry's item is in the heap
+--     Seated                                        each item of the heap knows its seat
+--     Heaped                                        and none has a lesser key than the one above it
+--     Lowered                                       what `lower` does
+--     Removed                                       what `remove_least` does
 use Prim.Native.Nat.{ℕ, _+_, _-_, _*_, _/_, _%_, _≤_, _<_}
 use mathlib.Core.Path.{_≡_}
 use mathlib.Core.List.{List}
@@ -26,7 +27,7 @@ slots = 1048576
 abbrev pub settledSlot : ℕ
 settledSlot = 1048575
 
--- so many items have places below the slots of those that have left
+-- so many items have seats below the slots of those that have left
 abbrev pub mostItems : ℕ
 mostItems = 524288
 
@@ -55,9 +56,9 @@ pub record Open (n word : ℕ) : Type 0 where
 abbrev pub In : (work : List ℕ) → (n c : ℕ) → Type 0
 In work n c = Open n (getD work c 0)
 
--- ---- places
+-- ---- seats
 
--- the item at a place
+-- the item at a seat
 abbrev pub itemAt : (work : List ℕ) → (n i : ℕ) → ℕ
 itemAt work n i = slotOf (getD work (n + i) 0)
 
@@ -65,13 +66,14 @@ itemAt work n i = slotOf (getD work (n + i) 0)
 abbrev pub keyAt : (work : List ℕ) → (n i : ℕ) → ℕ
 keyAt work n i = keyOf (getD work (itemAt work n i) 0)
 
--- the place above a place: right below place i are places 4 * i + 1 to 4 * i + 4
+-- the seat above a seat: right below seat i are seats 4 * i + 1 to 4 * i + 4
 abbrev pub above : ℕ → ℕ
 above i = (i - 1) / 4
 
 -- ---- the heap
 
--- the item at each place is in the heap with that place as its slot, and each item in the heap stands at its slot
+-- the item at each seat is in the heap with that seat as its slot, and each item in the heap stands at its
+-- slot
 pub record Seated (n size : ℕ) (work : List ℕ) : Type 0 where
   pub room : n + n ≤ length work
   pub few : n ≤ mostItems
@@ -84,15 +86,15 @@ pub record Seated (n size : ℕ) (work : List ℕ) : Type 0 where
   pub within : (c : ℕ) → c < n → In work n c → slotOf (getD work c 0) < size
   pub seats : (c : ℕ) → c < n → In work n c → itemAt work n (slotOf (getD work c 0)) ≡ c
 
--- and the key above each place is at most the key there
+-- and the key above each seat is at most the key there
 pub record Heaped (n size : ℕ) (work : List ℕ) : Type 0 where
   pub seated : Seated n size work
   pub order : (i : ℕ) → 0 < i → i < size → keyAt work n (above i) ≤ keyAt work n i
 
 -- ---- what is done to it
 
--- An item that was never touched is put in, and one in the heap with a greater key is given the lesser; else nothing changes. The other
--- items keep their keys, and are in the heap as before.
+-- An item that was never touched is put in, and one in the heap with a greater key is given the lesser; else
+-- nothing changes. The other items keep their keys, and are in the heap as before.
 pub record Lowered (n size item distance : ℕ) (found work : List ℕ) (now : ℕ) : Type 0 where
   pub heaped : Heaped n now work
   pub long : length work ≡ length found
@@ -104,8 +106,8 @@ pub record Lowered (n size item distance : ℕ) (found work : List ℕ) (now : �
   pub still : (c : ℕ) → c < n → (c ≡ item → ⊥) → (In found n c → ⊥) → getD work c 0 ≡ getD found c 0
   pub beyond : (j : ℕ) → n + now ≤ j → getD work j 0 ≡ getD found j 0
 
--- An item of the heap with the least key is taken out. Every item keeps its key, and the others are in the heap as before. The word of the
--- place that is no longer in the heap is left zero.
+-- An item of the heap with the least key is taken out. Every item keeps its key, and the others are in the
+-- heap as before. The word of the seat that is no longer in the heap is left zero.
 pub record Removed (n size item : ℕ) (found work : List ℕ) : Type 0 where
   pub heaped : Heaped n (size - 1) work
   pub long : length work ≡ length found

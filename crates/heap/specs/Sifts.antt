@@ -1,10 +1,11 @@
--- How an item finds its place. While it is moved its place is a hole: the slice is told with the item put there.
---     placed                       an item put at a place with a key
---     Moved                        items of the heap have changed places, and nothing else
---     Rising, Sinking              the order holds everywhere but at a place, or but right below it
+-- How an item finds its seat. While it is moved its seat is a hole: the slice is told with the item put
+-- there.
+--     placed                       an item put at a seat with a key
+--     Moved                        items of the heap have changed seats, and nothing else
+--     Rising, Sinking              the order holds everywhere but at a seat, or but right below it
 --     Lifted, Dropped              what sift_up and sift_down ask
 --     Sifted                       what both do
---     Keyed, Lowest                places in a row, and the one of them with the least key
+--     Keyed, Lowest                seats in a row, and the one of them with the least key
 --     Climbs, Least, Sinks         what the code's tests tell
 use Prim.Native.Nat.{ℕ, _+_, _*_, _≤_, _<_}
 use mathlib.Core.Path.{_≡_}
@@ -13,11 +14,11 @@ use mathlib.Core.List.{List}
 use lib.ListN.{length, getD, set}
 use Rattle.heap.specs.Heaps.{mostItems, keyOf, wordOf, In, itemAt, keyAt, above, Seated, Heaped}
 
--- an item put at a place of the heap, with a key
+-- an item put at a seat of the heap, with a key
 unfoldable pub placed : (work : List ℕ) → (n at item key : ℕ) → List ℕ
 placed work n at item key = set (set work item (wordOf key at)) (n + at) (wordOf key item)
 
--- items of the heap have changed places, and nothing else
+-- items of the heap have changed seats, and nothing else
 pub record Moved (n size : ℕ) (found work : List ℕ) : Type 0 where
   pub long : length work ≡ length found
   pub keys : (c : ℕ) → c < n → keyOf (getD work c 0) ≡ keyOf (getD found c 0)
@@ -30,15 +31,15 @@ pub record Sifted (n size : ℕ) (found work : List ℕ) : Type 0 where
   pub heaped : Heaped n size work
   pub moved : Moved n size found work
 
--- ---- the order but for a place; k is the key at each place
+-- ---- the order but for a seat; k is the key at each seat
 
--- the place's key may be less than the one above, and what is below it is at least the one above
+-- the seat's key may be less than the one above, and what is below it is at least the one above
 pub record Rising (size at : ℕ) (k : ℕ → ℕ) : Type 0 where
   pub known : at < size
   pub order : (i : ℕ) → 0 < i → i < size → (i ≡ at → ⊥) → k (above i) ≤ k i
   pub span : (i : ℕ) → 0 < at → 0 < i → i < size → above i ≡ at → k (above at) ≤ k i
 
--- the place's key may be greater than those below, and these are at least the one above it
+-- the seat's key may be greater than those below, and these are at least the one above it
 pub record Sinking (size at : ℕ) (k : ℕ → ℕ) : Type 0 where
   pub known : at < size
   pub order : (i : ℕ) → 0 < i → i < size → (above i ≡ at → ⊥) → k (above i) ≤ k i
@@ -57,7 +58,7 @@ pub record Dropped (n size at item key : ℕ) (work : List ℕ) : Type 0 where
   pub seated : Seated n size (placed work n at item key)
   pub sinking : Sinking size at (keyAt (placed work n at item key) n)
 
--- every place but one has an item
+-- every seat but one has an item
 pub record Held (n size at : ℕ) (work : List ℕ) : Type 0 where
   pub room : n + n ≤ length work
   pub few : n ≤ mostItems
@@ -66,7 +67,7 @@ pub record Held (n size at : ℕ) (work : List ℕ) : Type 0 where
   pub items : (i : ℕ) → i < size → (i ≡ at → ⊥) → itemAt work n i < n
   pub agree : (i : ℕ) → i < size → (i ≡ at → ⊥) → keyOf (getD work (n + i) 0) ≡ keyAt work n i
 
--- ---- places in a row, from first to right before end
+-- ---- seats in a row, from first to right before end
 
 -- they have the keys of their items
 pub record Keyed (n first end : ℕ) (work : List ℕ) : Type 0 where
@@ -76,10 +77,10 @@ pub record Keyed (n first end : ℕ) (work : List ℕ) : Type 0 where
   pub agree : (i : ℕ) → first ≤ i → i < end → keyOf (getD work (n + i) 0) ≡ keyAt work n i
 
 -- the one with the least key
-pub record Lowest (n first end : ℕ) (work : List ℕ) (place : ℕ) : Type 0 where
-  pub from : first ≤ place
-  pub until : place < end
-  pub least : (i : ℕ) → first ≤ i → i < end → keyAt work n place ≤ keyAt work n i
+pub record Lowest (n first end : ℕ) (work : List ℕ) (seat : ℕ) : Type 0 where
+  pub from : first ≤ seat
+  pub until : seat < end
+  pub least : (i : ℕ) → first ≤ i → i < end → keyAt work n seat ≤ keyAt work n i
 
 -- ---- what the code's tests tell
 

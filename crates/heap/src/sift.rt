@@ -1,5 +1,5 @@
-// An item finds its place in the heap: it goes up while the one above it has a greater key, or down while one below has a lesser. The others
-// move into the hole that it leaves, and it is put at the end.
+// An item finds its seat in the heap: it goes up while the one above it has a greater key, or down while one
+// below has a lesser. The others move into the hole that it leaves, and it is put at the end.
 ghost use mathlib.Core.Path.{_≡_};
 ghost use mathlib.Core.Bool.{cond};
 ghost use Prim.Native.Nat.{_+_, _*_, _<_};
@@ -10,7 +10,7 @@ use crate::cells::put;
 use crate::cells::shift;
 use crate::cells::word_at;
 
-// Whether the item above a place has a greater key.
+// Whether the item above a seat has a greater key.
 fn climbs(work: &[u64], n: usize, size: usize, at: usize, key: u64) -> bool
     requires { ⌜ Held n size at (now work) ⌝ }
     ensures { λ r. ⌜ Climbs n at key (now (work .entry)) r ⌝ }
@@ -21,7 +21,7 @@ fn climbs(work: &[u64], n: usize, size: usize, at: usize, key: u64) -> bool
     key < key_at(work, n, (at - 1) / 4)
 }
 
-// Puts an item at a place of a heap of `size`, or higher.
+// Puts an item at a seat of a heap of `size`, or higher.
 pub fn sift_up(work: &mut [u64], n: usize, size: usize, from: usize, item: usize, key: u64)
     requires { ⌜ Lifted n size from item key (now work) ⌝ }
     ensures { λ _. ⌜ Sifted n size (placed (now (work .entry)) n from item key) (now (work .exit)) ⌝ }
@@ -49,8 +49,8 @@ fn lesser(a: u64, b: u64) -> u64
     if b < a { b } else { a }
 }
 
-// Of four places in a row the one with the least key: the lesser of each pair, then of the two. Each word is read once, with no branch. Words are
-// compared whole: the lesser has no greater key.
+// Of four seats in a row the one with the least key: the lesser of each pair, then of the two. Each word is
+// read once, with no branch. Words are compared whole: the lesser has no greater key.
 fn least_of_four(work: &[u64], n: usize, first: usize) -> usize
     requires { ⌜ Keyed n first (first + 4) (now work) ⌝ }
     ensures { λ r. ⌜ Lowest n first (first + 4) (now (work .entry)) r ⌝ }
@@ -64,21 +64,21 @@ fn least_of_four(work: &[u64], n: usize, first: usize) -> usize
     if lesser(c, d) < lesser(a, b) { j } else { i }
 }
 
-// Of the places from one to the heap's end the one with the least key.
+// Of the seats from one to the heap's end the one with the least key.
 fn least_of_few(work: &[u64], n: usize, first: usize, size: usize) -> usize
     requires { ⌜ (Keyed n first size (now work)) × (first < size) ⌝ }
     ensures { λ r. ⌜ Lowest n first size (now (work .entry)) r ⌝ }
 {
     let mut least = first;
-    for place in first + 1..size {
-        if key_at(work, n, place) < key_at(work, n, least) {
-            least = place;
+    for seat in first + 1..size {
+        if key_at(work, n, seat) < key_at(work, n, least) {
+            least = seat;
         }
     }
     least
 }
 
-// Below a place that has a place below it, the place with the least key.
+// Below a seat that has a seat below it, the seat with the least key.
 fn lesser_child(work: &[u64], n: usize, size: usize, at: usize) -> usize
     requires { ⌜ (Held n size at (now work)) × (4 * at + 1 < size) ⌝ }
     ensures { λ r. ⌜ Least n size at (now (work .entry)) r ⌝ }
@@ -90,7 +90,7 @@ fn lesser_child(work: &[u64], n: usize, size: usize, at: usize) -> usize
     least_of_four(work, n, first)
 }
 
-// Whether an item right below a place has a lesser key.
+// Whether an item right below a seat has a lesser key.
 fn sinks(work: &[u64], n: usize, size: usize, at: usize, key: u64) -> bool
     requires { ⌜ Held n size at (now work) ⌝ }
     ensures { λ r. ⌜ Sinks n size at key (now (work .entry)) r ⌝ }
@@ -101,7 +101,7 @@ fn sinks(work: &[u64], n: usize, size: usize, at: usize, key: u64) -> bool
     key_at(work, n, lesser_child(work, n, size, at)) < key
 }
 
-// Puts an item at a place of a heap of `size`, or lower.
+// Puts an item at a seat of a heap of `size`, or lower.
 pub fn sift_down(work: &mut [u64], n: usize, size: usize, from: usize, item: usize, key: u64)
     requires { ⌜ Dropped n size from item key (now work) ⌝ }
     ensures { λ _. ⌜ Sifted n size (placed (now (work .entry)) n from item key) (now (work .exit)) ⌝ }

@@ -1,4 +1,5 @@
--- Reading a group field by field: while bits of the group are left, the next field is whole, and its number is below a power of two.
+-- Reading a group field by field: while bits of the group are left, the next field is whole, and its number
+-- is below a power of two.
 --     is-whole, is-cut           what the test for a whole group says
 --     first-arm, second-arm      what a choice says of its test
 --     Left                       bits that are there from a position on

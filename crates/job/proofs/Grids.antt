@@ -115,7 +115,7 @@ room-some g v b = by (stepsColumn g (v .layer)) refl
     by true e = rw e (omega arith)
     by false e = rw e (omega arith)
 
--- a step high leaves one place less
+-- a step high leaves one vertex less
 room-next : (g : Grid) (v : Vertex) → roomHigh g (nextHigh g v) ≡ roomHigh g v - 1
 unfolding roomHigh nextHigh
 room-next g v = by (stepsColumn g (v .layer)) refl

@@ -1,5 +1,5 @@
--- Reading and packing a job undo each other: bytes are read as a good job exactly where they are that job's packed bytes and it
--- keeps the rules.
+-- Reading and packing a job undo each other: bytes are read as a good job exactly where they are that job's
+-- packed bytes and it keeps the rules.
 --     two-way      the law
 --     rules-hold   a job that was read keeps the rules
 --     job-bits     the bits of a good job's bytes are its groups, then fewer than eight zero bits
@@ -14,7 +14,7 @@ mod Pins
 pub mod Nets
 pub mod Filled
 mod Jobs
-use Prim.Native.Nat.{ℕ, _+_, _*_, _<_}
+use Prim.Native.Nat.{ℕ, _+_, _<_}
 use mathlib.Core.Path.{_≡_, refl}
 use mathlib.Core.Logic.{_↔_}
 use mathlib.Core.List.{List, [], _∷_, _++_, append-assoc}

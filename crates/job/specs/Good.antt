@@ -21,8 +21,8 @@ pub record GoodGrid (g : Grid) : Type 0 where
   pub rows : g .rows ≤ 256
   pub vertices : vertices g ≤ 16384
 
--- "wire price 10 (at least 1); price of the via to the layer above 10 (at least 1; 0 on the top layer); minimum length M in
--- steps 4 (at least 1); area penalty 16"
+-- "wire price 10 (at least 1); price of the via to the layer above 10 (at least 1; 0 on the top layer);
+-- minimum length M in steps 4 (at least 1); area penalty 16"
 pub record GoodLayer (after : ℕ) (l : Layer) : Type 0 where
   pub someWire : 1 ≤ l .wire
   pub wire : l .wire < 2 ^ 10

@@ -1,5 +1,6 @@
--- Reading a job's bytes: a good job, or a refusal with its number and place. "The first broken rule in reading order is returned,
--- within a group in table order"; a group that is not whole is refused by 2 at its first bit, before its rules.
+-- Reading a job's bytes: a good job, or a refusal with its number and place. "The first broken rule in
+-- reading order is returned, within a group in table order"; a group that is not whole is refused by 2 at its
+-- first bit, before its rules.
 --     Read, rule, wholeGroup     what reading answers, and the two ways in which it ends early
 --     readHead .. readTail       one function a group, each at the group's first bit
 --     readJob                    from any bytes
@@ -62,8 +63,8 @@ jobHead j =
       obstacles = length (j .obstacles);
     }
 
--- "Head, 80 bits: edition 4 (is 1); direction 1; layers minus one 3; columns minus one 8; rows minus one 8; guide penalty 16;
--- short penalty 16; nets 8; obstacles 16."
+-- "Head, 80 bits: edition 4 (is 1); direction 1; layers minus one 3; columns minus one 8; rows minus one 8;
+-- guide penalty 16; short penalty 16; nets 8; obstacles 16."
 unfoldable pub headAt : (bits : List ℕ) (at : ℕ) → Head
 headAt bits at =
     record {
@@ -87,7 +88,8 @@ readHead bits = do
   rule 4 8 (leb (vertices (headAt bits 0 .grid)) 16384)
   good (headAt bits 0)
 
--- "Layer line, 40 bits: wire price 10; price of the via to the layer above 10; minimum length M in steps 4; area penalty 16."
+-- "Layer line, 40 bits: wire price 10; price of the via to the layer above 10; minimum length M in steps 4;
+-- area penalty 16."
 unfoldable pub layerAt : (bits : List ℕ) (at : ℕ) → Layer
 layerAt bits at =
     record {

@@ -1,11 +1,12 @@
--- The forms in which the code holds the parts of a job, each made from the records of Job and the readers of Reading.
+-- The forms in which the code holds the parts of a job, each made from the records of Job and the readers of
+-- Reading.
 use Prim.Native.Nat.{ℕ, _≤_, _<_, suc, _+_, _-_}
 use mathlib.Core.List.{List, map, _++_}
 use mathlib.Core.Bool.{cond}
 use lib.ListN.{replicate, length}
 use lib.Dec.{eqb}
 use Rattle.bits.specs.Bits.{bitsOf, field, whole}
-use Rattle.job.specs.Grid.{Grid, Vertex, stepsColumn, vertices}
+use Rattle.job.specs.Grid.{Grid, Vertex, vertices}
 use Rattle.job.specs.Job.{closedPrice, Layer, Obstacle, Box}
 use Rattle.job.specs.Reading.{Head, headAt, layerAt, vertexAt, obstacleAt, boxAt}
 use Rattle.job.specs.declared.penalty.Penalty.{Penalty}

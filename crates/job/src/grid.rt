@@ -1,6 +1,6 @@
 // The grid: vertices on layers, numbered by layer, row, column.
 ghost use mathlib.Core.Path.{_≡_};
-ghost use Prim.Native.Nat.{_≤_, _<_};
+ghost use Prim.Native.Nat.{_<_};
 ghost use Rattle.job.specs.Grid.{vertices, vertexNumber, inside, stepsColumn, strideOf};
 ghost use Rattle.job.specs.Structs.{Small, InFields, gridOf, vertexOf};
 

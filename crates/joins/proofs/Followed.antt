@@ -1,7 +1,7 @@
 -- The move that is followed from a place of a cheapest join, in the code's words.
---     goes-on, ends-here          whether the route goes on, as the code asks
---     lead-read                   the move that a mark tells, as the code reads it
---     followed-made, followed-legal     what it made while the moves are counted; it is legal
+--     goes-on, ends-here               whether the route goes on, as the code asks
+--     lead-read                        the move that a lead tells, as the code reads it
+--     followed-made, followed-legal    what it made while the moves are counted; it is legal
 use Prim.Native.Nat.{ℕ, _+_, _%_}
 use mathlib.Core.Path.{_≡_, refl, sym, _∙_}
 use mathlib.Core.List.{List}
@@ -10,7 +10,7 @@ use lib.ListN.{getD}
 use lib.Dec.{eqb}
 use Rattle.job.specs.Structs.{gridOf}
 use Rattle.paths.specs.Distances.{fin, lowestKeeping}
-use Rattle.paths.specs.Marks.{onBest}
+use Rattle.paths.specs.Leads.{onBest}
 use Rattle.rules.specs.Views.{View}
 use Rattle.rules.specs.Steps.{step, priced}
 use Rattle.rules.specs.Places.{codeBy, GoodPlace}
@@ -21,9 +21,9 @@ use Rattle.rules.specs.declared.step.Made.{Made as MadeStruct}
 use Rattle.rules.specs.declared.step.Stepped.{Stepped as SteppedEnum}
 use Rattle.rules.specs.declared.step.Stepped.the-variants.{Illegal, Legal}
 use Rattle.heap.specs.Heaps.{slotOf}
-use Rattle.search.specs.Fronts.{systemBy, markedLead}
+use Rattle.search.specs.Fronts.{systemBy, leadAt}
 use Rattle.search.proofs.Asking.{code-made}
-use Rattle.search.specs.Charts.{Charted, lowestMarked}
+use Rattle.search.specs.Charts.{Charted, lowestLed}
 use Rattle.joins.specs.Traces.{toGo}
 use Rattle.joins.proofs.Tracing.{OnJoin, on-lowest, trace-made, trace-legal, Counting, counting-on}
 
@@ -43,15 +43,15 @@ module _ {tech : TechStruct} (held : TechFits tech) (seen : List ℕ) {spots bou
   abbrev view : View
   view = seenBy tech seen
 
-  -- the move that the mark of the place tells, as the code reads it
+  -- the move that the lead of the place tells, as the code reads it
   pub lead-read : GoodPlace (techBy tech) (placeOf place) → {code number : ℕ} → code ≡ codeBy (tech .largest) (placeOf place)
-      → number ≡ slotOf (getD work code 0) % 4 → number ≡ markedLead (techBy tech) work (placeOf place)
-  unfolding markedLead
+      → number ≡ slotOf (getD work code 0) % 4 → number ≡ leadAt (techBy tech) work (placeOf place)
+  unfolding leadAt
   lead-read on made is = rw (is, code-made held place on made) refl
 
   module _ {start count : ℕ} (so-far : Counting (techBy tech) view spots bounds work best start (placeOf place) count)
       (goes : eqb (getD spots (place .vertex) 0) 2 ≡ false) {number : ℕ}
-      (told : number ≡ markedLead (techBy tech) work (placeOf place)) {r : SteppedEnum}
+      (told : number ≡ leadAt (techBy tech) work (placeOf place)) {r : SteppedEnum}
       (stepped : IsStepped (gridOf (tech .grid)) view (place .vertex) r (step (techBy tech) view (placeOf place) number)) where
     -- a place of a cheapest join has a cost to go
     cost-here : (c : ℕ) × (toGo (techBy tech) view spots (placeOf place) ≡ fin c)
@@ -65,7 +65,7 @@ module _ {tech : TechStruct} (held : TechFits tech) (seen : List ℕ) {spots bou
     lowest = told ∙ on-lowest (techBy tech) view spots charted (held .good) (so-far .good) (so-far .joins goes) (cost-here .1)
 
     -- one more is counted
-    pub followed-made : {made : MadeStruct} → start ≡ lowestMarked (techBy tech) view spots work → r ≡ Legal made
+    pub followed-made : {made : MadeStruct} → start ≡ lowestLed (techBy tech) view spots work → r ≡ Legal made
         → Counting (techBy tech) view spots bounds work best start (placeOf (made .next)) (count + 1)
     unfolding steppedBy madeBy priced
     followed-made {made} from is =

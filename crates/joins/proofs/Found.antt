@@ -1,8 +1,9 @@
 -- The join that the bytes tell is the cheapest join of what stands, and the one that a search from the tree
 -- found.
---     found-join          it is the cheapest join of what stands
---     found-marked        a search that found an unjoined pin has marked its start, and has its cost
---     found-nothing       where a search found none there is no join
+--     found-join       it is the cheapest join of what stands
+--     found-led        after a search that found an unjoined pin the leads tell its start, and it has its
+--                      cost
+--     found-nothing    where a search found none there is no join
 use Prim.Native.Nat.{ℕ, zero, suc, _<_}
 use mathlib.Core.Path.{_≡_, refl, sym, ap, _∙_}
 use mathlib.Core.List.{List, _∷_}
@@ -16,7 +17,7 @@ use Rattle.paths.specs.Starts.{Choice, none, first, startCost, Chooses}
 use Rattle.paths.specs.Forward.{Forward}
 use Rattle.paths.proofs.Following.{follow-none, follow-goal, follow-inf, follow-step}
 use Rattle.paths.proofs.Starts.{best-chooses, best-same}
-use Rattle.paths.proofs.Cheapest.{forward-none, marks-best}
+use Rattle.paths.proofs.Cheapest.{forward-none, leads-best}
 use Rattle.rules.specs.Views.{View, member}
 use Rattle.rules.specs.Segments.{Place}
 use Rattle.rules.specs.Prices.{Tech}
@@ -27,10 +28,10 @@ use Rattle.rules.specs.Standings.{Apart}
 use Rattle.rules.proofs.Places.{start-good}
 use Rattle.rules.proofs.Certificates.{join-by-table}
 use Rattle.tree.specs.Spots.{Spots}
-use Rattle.tree.proofs.Marked.{spot-goal, spot-tree}
+use Rattle.tree.proofs.Spots.{spot-goal, spot-tree}
 use Rattle.bounds.specs.Bounds.{Bounding}
 use Rattle.search.specs.Fronts.{systemBy, startsBy, reachedBy, atLeast}
-use Rattle.search.specs.Charts.{Charted, lowestMarked}
+use Rattle.search.specs.Charts.{Charted, lowestLed}
 use Rattle.search.proofs.Lawful.{lawful-by, starts-good}
 use Rattle.search.proofs.Costing.{bounds-low}
 use Rattle.joins.specs.Traces.{toGo, choiceOf, routeBy, joinChosen, joinBySpots}
@@ -46,13 +47,13 @@ module _ (t : Tech) (view : View) (spots : List ℕ) (good : GoodTech t) where
 
   -- ---- the tree and the unjoined pins that the bytes tell
 
-  module _ (tree unjoined : List ℕ) (marked : Spots (t .grid) tree unjoined spots) (apart : Apart t tree unjoined) where
+  module _ (tree unjoined : List ℕ) (told : Spots (t .grid) tree unjoined spots) (apart : Apart t tree unjoined) where
     abbrev R : System
     R = system t view unjoined
 
     -- the goals are the same
     goal-same : (p : Place) → GoodPlace t p → eqb (getD spots (p .vertex) 0) 2 ≡ member (p .vertex) unjoined
-    goal-same p on = spot-goal (t .grid) tree unjoined spots (p .vertex) (apart .noGoal (p .vertex)) (on .vertex) marked
+    goal-same p on = spot-goal (t .grid) tree unjoined spots (p .vertex) (apart .noGoal (p .vertex)) (on .vertex) told
 
     -- so the costs to go are a table for these lists
     spots-table : Table R (GoodPlace t) D
@@ -81,7 +82,7 @@ module _ (t : Tech) (view : View) (spots : List ℕ) (good : GoodTech t) where
     -- the same cost from each start
     cost-same : (v : ℕ) → v < vertices (t .grid) → startCost (startsBy t view spots) D v ≡ startCost (starts t view tree unjoined) D v
     unfolding startCost
-    cost-same v h = ap (λ (b : Bool). cond b (D (startAt v)) inf) (spot-tree (t .grid) tree unjoined spots v h marked)
+    cost-same v h = ap (λ (b : Bool). cond b (D (startAt v)) inf) (spot-tree (t .grid) tree unjoined spots v h told)
 
     -- the same moves from the chosen one
     chosen-same : (b : Choice) → Chooses (startCost (startsBy t view spots) D) (vertices (t .grid)) b
@@ -100,14 +101,14 @@ module _ (t : Tech) (view : View) (spots : List ℕ) (good : GoodTech t) where
 
   -- ---- the search from the tree
 
-  -- a search that found an unjoined pin has marked the join's start, and has its cost
-  pub found-marked : {bounds work : List ℕ} {best : ℕ} → Charted t view spots bounds work best
-      → joinBySpots t view spots ≡ Record.join (lowestMarked t view spots work) (routeBy t view spots (lowestMarked t view spots work)) best
+  -- after a search that found an unjoined pin the leads tell the join's start, and it has its cost
+  pub found-led : {bounds work : List ℕ} {best : ℕ} → Charted t view spots bounds work best
+      → joinBySpots t view spots ≡ Record.join (lowestLed t view spots work) (routeBy t view spots (lowestLed t view spots work)) best
   unfolding joinBySpots choiceOf joinChosen
-  found-marked charted =
+  found-led charted =
       let laws = lawful-by view spots good in
       ap (joinChosen t view spots)
-      (marks-best laws (table-by t view spots good) (starts-good t view spots) (charted .low) (charted .forward) (charted .marks))
+      (leads-best laws (table-by t view spots good) (starts-good t view spots) (charted .low) (charted .forward) (charted .leading))
 
   -- where a search found none there is no join
   pub found-nothing : (bounds work : List ℕ) → Bounding t spots bounds

@@ -1,12 +1,14 @@
 -- The route of a join, move by move.
---     table-by                          the costs to go are a table
---     Traced, trace-next, trace-made    the move that is followed from a place, and what it leads to
---     trace-legal                       it is not blocked
---     route-short                       a route has fewer than 2^20 moves
---     OnJoin, start-on                  a place of a cheapest join; the lowest start with a mark is one
---     on-lowest, on-next                there the mark tells the move that is followed, and it leads to a goal
---                                       or on to such a place
---     Counting, counting-begun, -room, -on, -done      the moves so far, then the rest, are the route
+--     table-by                                       the costs to go are a table
+--     Traced, trace-next, trace-made                 the move that is followed from a place, and what it
+--                                                    leads to
+--     trace-legal                                    it is not blocked
+--     route-short                                    a route has fewer than 2^20 moves
+--     OnJoin, start-on                               a place of a cheapest join; the lowest start with a lead
+--                                                    is one
+--     on-lowest, on-next                             there the lead tells the move that is followed, and it
+--                                                    leads to a goal or on to such a place
+--     Counting, counting-begun, -room, -on, -done    the moves so far, then the rest, are the route
 use Prim.Native.Nat.{ℕ, suc, _+_, _-_, _^_, _<_}
 use mathlib.Core.Path.{_≡_, sym, ap, _∙_}
 use mathlib.Core.List.{List, _∷_}
@@ -16,10 +18,10 @@ use lib.ListN.{length}
 use Rattle.job.specs.Grid.{vertices}
 use Rattle.paths.specs.Systems.{blocked, to, System, Legal}
 use Rattle.paths.specs.Distances.{Cost, fin, Table, keeps, lowestKeeping, follow}
-use Rattle.paths.specs.Marks.{OnBest, onBest, Leads, ends, goesOn}
+use Rattle.paths.specs.Leads.{OnBest, onBest, Leads, ends, goesOn}
 use Rattle.paths.proofs.Following.{follow-goal, follow-step, cost-keeps, kept}
-use Rattle.paths.proofs.Cheapest.{dist-table, follow-short, keeps-leads, best-mark, lowest-lead}
-use Rattle.paths.proofs.JoinMarks.{marked-on}
+use Rattle.paths.proofs.Cheapest.{dist-table, follow-short, keeps-leads, best-led, lowest-lead}
+use Rattle.paths.proofs.JoinLeads.{led-on}
 use Rattle.paths.proofs.OnBest.{same-fin, near-best}
 use Rattle.paths.proofs.Steps.{not-blocked, one-price, one-next}
 use Rattle.rules.specs.Views.{View}
@@ -29,8 +31,8 @@ use Rattle.rules.specs.Walks.{startAt}
 use Rattle.rules.specs.Joins.{places}
 use Rattle.rules.specs.Places.{GoodPlace, GoodTech}
 use Rattle.rules.proofs.Places.{start-good, places-small}
-use Rattle.search.specs.Fronts.{systemBy, reachedBy, markedLead}
-use Rattle.search.specs.Charts.{Charted, lowestMarked}
+use Rattle.search.specs.Fronts.{systemBy, reachedBy, leadAt}
+use Rattle.search.specs.Charts.{Charted, lowestLed}
 use Rattle.search.proofs.Lawful.{lawful-by, starts-good}
 use Rattle.joins.specs.Traces.{toGo, routeBy}
 
@@ -112,21 +114,21 @@ module _ (t : Tech) (view : View) (spots : List ℕ) where
       pub rest : length (routeBy t view spots start) ≡ count + length (follow S D (places t - count) p)
 
   module _ {bounds work : List ℕ} {best : ℕ} (charted : Charted t view spots bounds work best) (fine : GoodTech t) where
-    -- the lowest start with a mark is one
-    pub start-on : (lowestMarked t view spots work < vertices (t .grid)) × OnJoin bounds work best (startAt (lowestMarked t view spots work))
+    -- the lowest start with a lead is one
+    pub start-on : (lowestLed t view spots work < vertices (t .grid)) × OnJoin bounds work best (startAt (lowestLed t view spots work))
     start-on =
-        let (below, is, on) = marked-on (lawful-by view spots fine) (table-by fine) (starts-good t view spots) (charted .low) (charted .forward) (charted .marks) in
+        let (below, is, on) = led-on (lawful-by view spots fine) (table-by fine) (starts-good t view spots) (charted .low) (charted .forward) (charted .leading) in
         (below, on)
 
     module _ {p : Place} (on : GoodPlace t p) where
-      -- the move that its mark tells is the one that is followed
-      pub on-lowest : {c : ℕ} → OnJoin bounds work best p → D p ≡ fin c → markedLead t work p ≡ lowestKeeping S D p c
+      -- the move that its lead tells is the one that is followed
+      pub on-lowest : {c : ℕ} → OnJoin bounds work best p → D p ≡ fin c → leadAt t work p ≡ lowestKeeping S D p c
       on-lowest {c} (onBest {e = e} {d = d} g at left sum) cost =
           let joins : OnJoin bounds work best p = onBest g at left sum in
           let near = near-best (lawful-by view spots fine) (table-by fine) (starts-good t view spots) (charted .low) (charted .forward) on at joins in
-          let marked = best-mark (lawful-by view spots fine) (table-by fine) (starts-good t view spots) (charted .low) (charted .forward) (charted .marks) on joins in
-          charted .told on at near marked
-          ∙ lowest-lead (lawful-by view spots fine) (table-by fine) (starts-good t view spots) (charted .low) (charted .forward) (charted .marks) on g at left sum
+          let led = best-led (lawful-by view spots fine) (table-by fine) (starts-good t view spots) (charted .low) (charted .forward) (charted .leading) on joins in
+          charted .told on at near led
+          ∙ lowest-lead (lawful-by view spots fine) (table-by fine) (starts-good t view spots) (charted .low) (charted .forward) (charted .leading) on g at left sum
           ∙ ap (lowestKeeping S D p) (same-fin left cost)
 
       -- it leads to a goal, or on to such a place
@@ -151,7 +153,7 @@ module _ (t : Tech) (view : View) (spots : List ℕ) where
 
     -- ---- counting
 
-    module _ {start : ℕ} (from : start ≡ lowestMarked t view spots work) where
+    module _ {start : ℕ} (from : start ≡ lowestLed t view spots work) where
       -- the start is a vertex
       start-below : start < vertices (t .grid)
       start-below = rw from (start-on .0)

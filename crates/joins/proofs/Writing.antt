@@ -38,8 +38,8 @@ use Rattle.walker.specs.declared.Walk.{Walk}
 use Rattle.walker.proofs.Landing.{MoveFits, made-fits, made-entered, MovesMade, made-none, made-one, made-all}
 use Rattle.walker.proofs.Entering.{enter-step}
 use Rattle.walker.proofs.Nets.{empty}
-use Rattle.search.specs.Fronts.{systemBy, markedLead}
-use Rattle.search.specs.Charts.{Charted, lowestMarked}
+use Rattle.search.specs.Fronts.{systemBy, leadAt}
+use Rattle.search.specs.Charts.{Charted, lowestLed}
 use Rattle.joins.specs.Traces.{toGo, routeBy}
 use Rattle.joins.proofs.Tracing.{OnJoin, start-on, on-lowest, on-next}
 
@@ -94,7 +94,7 @@ module _ (tech : TechStruct) (seen bounds work : List ℕ) (net from best count 
 
   -- before the first move
   pub writing-begun : {walk : Walk} {vertex : ℕ} → walk ≡ walkFrom vertex → start ≡ vertex → TechFits tech
-      → Charted (techBy tech) view (first .spots) bounds work best → vertex ≡ lowestMarked (techBy tech) view (first .spots) work
+      → Charted (techBy tech) view (first .spots) bounds work best → vertex ≡ lowestLed (techBy tech) view (first .spots) work
       → count ≡ length (routeBy (techBy tech) view (first .spots) vertex) → Writing (first .spots) (first .codes) found walk from count
   unfolding routeBy goneAt techBy
   writing-begun begun here fits charted told counted =
@@ -128,9 +128,9 @@ module _ (tech : TechStruct) (seen bounds work : List ℕ) (net from best count 
     place-good : GoodPlace (techBy tech) (so-far .gone .place)
     place-good = rw (← so-far .made .is .place) (so-far .made .place)
 
-    -- its number: the mark tells it
+    -- its number: the lead tells it
     pub writing-number : TechFits tech → Charted (techBy tech) view (first .spots) bounds work best → {number : ℕ}
-        → number ≡ markedLead (techBy tech) work (placeOf (walk .place)) → Lowest number
+        → number ≡ leadAt (techBy tech) work (placeOf (walk .place)) → Lowest number
     writing-number fits charted told =
         rw (so-far .made .is .place) at told ∙ on-lowest (techBy tech) view (first .spots) charted (fits .good) place-good (so-far .joins some) (onward .entry)
 
@@ -189,8 +189,8 @@ module _ (tech : TechStruct) (seen bounds work : List ℕ) (net from best count 
             → longer ≡ putBits plan at (fieldBits 2 number) → next ≡ at + 2 → further ≡ walkOn walk m
             → Writing more after longer further next (left - 1)
         unfolding goneOn madeBy concatBits
-        writing-on fits charted {more} {after} {longer} {further} {next} marked laid put moved walked =
-            let arrays = made-entered tech view (walk .place) number m is-step is-whole net spots codes marked laid in
+        writing-on fits charted {more} {after} {longer} {further} {next} tree-is laid put moved walked =
+            let arrays = made-entered tech view (walk .place) number m is-step is-whole net spots codes tree-is laid in
             let one : count - (left - 1) ≡ suc (count - left) = omega (arith, so-far .few, some) in
             let rest = moves-from (onward .left) (placeOf (m .next)) in
             let here : step (techBy tech) view (so-far .gone .place) number ≡ legal made = rw (← so-far .made .is .place) is-step in

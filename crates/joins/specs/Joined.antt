@@ -38,6 +38,6 @@ JoinedFits most (Joins.Join w next) = WalkFits w × (next ≤ most)
 pub record Written (t : Tech) (view : View) (net at : ℕ) (arrays : Arrays) (plan : List ℕ) (answer : Joined) (r : Record) (spots codes longer : List ℕ) : Type 0 where
   pub joined : IsJoined t view net at arrays answer r
   pub fits : JoinedFits (at + 2 ^ 22) answer
-  pub marked : spots ≡ leftBy t view net r arrays .spots
+  pub tree : spots ≡ leftBy t view net r arrays .spots
   pub laid : codes ≡ leftBy t view net r arrays .codes
   pub put : longer ≡ putBits plan at (recordBits (t .grid) r)

@@ -16,7 +16,7 @@ use Rattle.rules.specs.Prices.{Tech}
 use Rattle.rules.specs.Walks.{startAt}
 use Rattle.rules.specs.Joins.{Record, places}
 use Rattle.search.specs.Fronts.{systemBy, startsBy, noGoal}
-use Rattle.search.specs.Charts.{Charted, lowestMarked}
+use Rattle.search.specs.Charts.{Charted, lowestLed}
 
 module _ (t : Tech) (view : View) (spots : List ℕ) where
   -- the least cost to go from each place
@@ -40,8 +40,8 @@ module _ (t : Tech) (view : View) (spots : List ℕ) where
   unfoldable pub joinBySpots : Record
   joinBySpots = joinChosen choiceOf
 
--- what a search found: a start and the cost of the join from there, by the marks of the work slice; or that
+-- what a search found: a start and the cost of the join from there, by the leads of the work slice; or that
 -- there is no join
 pub record Told (t : Tech) (view : View) (spots work : List ℕ) (start cost : ℕ) : Type 0 where
-  pub found : cost < noGoal → (bounds : List ℕ) × (Charted t view spots bounds work cost) × (start ≡ lowestMarked t view spots work)
+  pub found : cost < noGoal → (bounds : List ℕ) × (Charted t view spots bounds work cost) × (start ≡ lowestLed t view spots work)
   pub none : noGoal ≤ cost → joinBySpots t view spots ≡ Record.none

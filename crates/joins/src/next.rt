@@ -25,14 +25,14 @@ use crate::join::write_join;
 use bounds::fill::fill_bounds;
 use rules::price::Tech;
 use search::clear::clear;
-use search::mark::mark;
+use search::retrace::retrace;
 use search::settle::Found;
 use search::settle::NONE;
 use search::settle::settle;
 use walker::NetAtHand;
 
-// Where the join that a search found starts, by marks in the work slice; any vertex where it found none.
-fn mark_found(
+// Where the join that a search found starts, by the leads in the work slice; any vertex where it found none.
+fn retrace_found(
     tech: Tech,
     prices: &[usize; 48],
     seen: &[u8; 16384],
@@ -54,7 +54,7 @@ fn mark_found(
         return 0;
     }
     let settled = found.settled;
-    mark(tech, prices, seen, spots, bounds, near, work, settled, best)
+    retrace(tech, prices, seen, spots, bounds, near, work, settled, best)
 }
 
 // The needed part of the work slice is lent zero, and left so.
@@ -83,7 +83,7 @@ pub fn next_join(
     let mut bounds: [u64; 528] = [0; 528];
     fill_bounds(&mut bounds, tech, spots, pins, hand.pins);
     let found = settle(tech, prices, seen, spots, &bounds, &mut near, work);
-    let start = mark_found(tech, prices, seen, spots, &bounds, &mut near, work, found);
+    let start = retrace_found(tech, prices, seen, spots, &bounds, &mut near, work, found);
     let cheapest = Cheapest {
         start,
         cost: found.best,

@@ -1,4 +1,4 @@
-// The route of the join that a search found: at each place the move that its mark tells, the lowest that
+// The route of the join that a search found: at each place the move that its lead tells, the lowest that
 // leads on, until an unjoined pin.
 ghost use mathlib.Core.Path.{_≡_};
 ghost use mathlib.Core.List.{List};
@@ -7,7 +7,7 @@ ghost use lib.ListN.{length, getD};
 ghost use lib.Dec.{eqb};
 ghost use Rattle.rules.specs.PriceLists.{Priced};
 ghost use Rattle.rules.specs.Structs.{TechFits, techBy, seenBy};
-ghost use Rattle.search.specs.Charts.{Charted, lowestMarked};
+ghost use Rattle.search.specs.Charts.{Charted, lowestLed};
 ghost use Rattle.joins.specs.Traces.{routeBy};
 use rules::price::Tech;
 use rules::segment::Segment;
@@ -37,7 +37,7 @@ pub fn count_moves(
 ) -> usize
     requires { ⌜ (TechFits tech) × (Priced (techBy tech) (now prices))
         × ((bounds : List ℕ) × (best : ℕ) × (Charted (techBy tech) (seenBy tech (now seen)) (now spots) bounds (now work) best))
-        × (start ≡ lowestMarked (techBy tech) (seenBy tech (now seen)) (now spots) (now work)) ⌝ }
+        × (start ≡ lowestLed (techBy tech) (seenBy tech (now seen)) (now spots) (now work)) ⌝ }
     ensures { λ r. ⌜ r ≡ length (routeBy (techBy tech) (seenBy tech (now (seen .entry))) (now (spots .entry)) start) ⌝ }
 {
     let mut place = Place {

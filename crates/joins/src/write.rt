@@ -12,7 +12,7 @@ ghost use Rattle.rules.specs.PriceLists.{Priced};
 ghost use Rattle.rules.specs.Structs.{TechFits, techBy, seenBy};
 ghost use Rattle.walker.specs.Entering.{goneAt, enterAll, leftIn};
 ghost use Rattle.walker.specs.Structs.{WalkFits, IsEntered};
-ghost use Rattle.search.specs.Charts.{Charted, lowestMarked};
+ghost use Rattle.search.specs.Charts.{Charted, lowestLed};
 ghost use Rattle.joins.specs.Traces.{routeBy};
 use bits::Cursor;
 use rules::price::Tech;
@@ -45,7 +45,7 @@ pub fn write_moves(
 ) -> Walk
     requires { ⌜ (TechFits tech) × (Priced (techBy tech) (now prices))
         × ((bounds : List ℕ) × (best : ℕ) × (Charted (techBy tech) (seenBy tech (now seen)) (now spots) bounds (now work) best))
-        × (route .start ≡ lowestMarked (techBy tech) (seenBy tech (now seen)) (now spots) (now work))
+        × (route .start ≡ lowestLed (techBy tech) (seenBy tech (now seen)) (now spots) (now work))
         × (vertices (gridOf (tech .grid)) ≤ length (now map)) × (from < 2 ^ 40) × (route .count < 2 ^ 20)
         × (route .count ≡ length (routeBy (techBy tech) (seenBy tech (now seen)) (now spots) (route .start))) ⌝ }
     ensures walk { λ r. ⌜ IsEntered r (enterAll (techBy tech) (seenBy tech (now (seen .entry))) net

@@ -1,11 +1,13 @@
 -- The laws of `decimal`.
---     decimal-small, decimal-more     the two equations to read it by: one digit below ten, and one digit after those of the tenth
---     decimal-each                    what holds of one digit, and of a number where it holds of its tenth, holds of all numbers
---     value-decimal                   the digits, read back, write the number
---     decimal-first                   the first digit is no zero, but of zero itself
---     length-tenth, length-decimal, length-word     how many digits there are: one more than in the tenth, one at least, twenty at most for
---                                                   a word
---     length-refused                  how long a refusal's line is
+--     decimal-small, decimal-more                  the two equations to read it by: one digit below ten, and
+--                                                  one digit after those of the tenth
+--     decimal-each                                 what holds of one digit, and of a number where it holds of
+--                                                  its tenth, holds of all numbers
+--     value-decimal                                the digits, read back, write the number
+--     decimal-first                                the first digit is no zero, but of zero itself
+--     length-tenth, length-decimal, length-word    how many digits there are: one more than in the tenth, one
+--                                                  at least, twenty at most for a word
+--     length-refused                               how long a refusal's line is
 use Prim.Native.Nat.{ℕ, zero, suc, _+_, _-_, _*_, _/_, _%_, _^_, _≤_, _<_}
 use mathlib.Core.Path.{_≡_, refl, sym, _∙_}
 use mathlib.Core.List.{List, [], _∷_, _++_}

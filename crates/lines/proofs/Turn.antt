@@ -1,5 +1,5 @@
--- What the loops of this crate lean on, over plain numbers and lists. `line₀` is the slice as found, `codes` what is to be put into it from `at` on,
--- and `line` the slice as it stands.
+-- What the loops of this crate lean on, over plain numbers and lists. `line₀` is the slice as found, `codes`
+-- what is to be put into it from `at` on, and `line` the slice as it stands.
 --     ToPut, put-one, put-some, put-done     what is still to be put; one code put; a few; all
 --     text-turn                              the loop that copies text: a turn
 --     Tenths, tenths-turn, tenths-done       the loop that counts digits: what it has, a turn, its end
@@ -61,7 +61,7 @@ tenths-done number count rest h t =
 -- the loop that puts digits, at its head: those of the rest are still to be put, the last of them at `last`
 pub record Spelt (line₀ : List ℕ) (at number : ℕ) (line : List ℕ) (last rest : ℕ) : Type 0 where
   pub to-put : ToPut line₀ at (decimal number) line at (decimal rest)
-  pub place : last + 1 ≡ at + length (decimal rest)
+  pub position : last + 1 ≡ at + length (decimal rest)
   pub within : last < at + length (decimal number)
 
 pub spelt-turn : (line₀ : List ℕ) (at number : ℕ) (line : List ℕ) (last rest : ℕ) → 10 ≤ rest → Spelt line₀ at number line last rest
@@ -69,14 +69,14 @@ pub spelt-turn : (line₀ : List ℕ) (at number : ℕ) (line : List ℕ) (last 
 spelt-turn line₀ at number line last rest h s =
     let tenth = decimal (rest / 10) in
     let more : decimal rest ≡ tenth ++ ((48 + rest % 10) ∷ []) = decimal-more rest h in
-    let end : last ≡ at + length tenth = omega (arith, length-tenth rest h, s .place) in
+    let end : last ≡ at + length tenth = omega (arith, length-tenth rest h, s .position) in
     record {
       to-put =
           record {
             same = rw end (sets-last line at tenth (48 + rest % 10) ∙ rw more at (s .to-put .same));
             kept = length-set line last _ ∙ s .to-put .kept;
           };
-      place = omega (arith, end, length-decimal (rest / 10));
+      position = omega (arith, end, length-decimal (rest / 10));
       within = omega (arith, s .within);
     }
 
@@ -84,7 +84,7 @@ pub spelt-done : (line₀ : List ℕ) (at number : ℕ) (line : List ℕ) (last 
     → set line last (48 + rest) ≡ sets line₀ at (decimal number)
 spelt-done line₀ at number line last rest h s =
     let one : decimal rest ≡ (48 + rest) ∷ [] = decimal-small rest h in
-    let end : last ≡ at = omega (arith, rw one at (s .place)) in
+    let end : last ≡ at = omega (arith, rw one at (s .position)) in
     rw end (rw one at (s .to-put .same))
 
 -- ---- hexadecimal

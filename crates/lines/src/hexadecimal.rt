@@ -28,7 +28,8 @@ pub fn put_byte(line: &mut [u8], at: usize, byte: u8)
     line[at + 1] = code(byte % 16);
 }
 
-// Puts the bytes from index `from` up to `count`, a space before each, and a newline; answers the index past it.
+// Puts the bytes from index `from` up to `count`, a space before each, and a newline; answers the index past
+// it.
 pub fn put_more(line: &mut [u8], at: usize, bytes: &[u8], from: usize, count: usize) -> usize
     requires { ⌜ (from ≤ count) × (count ≤ length (now bytes)) × (at + 3 * (count - from) < length (now line)) ⌝ }
     ensures { λ r. ⌜ PutAt (now (line .entry)) (now (line .exit)) at r (hexMore (drop from (take count (now (bytes .entry))))) ⌝ }

@@ -1,5 +1,5 @@
-// The program's line, put into a slice that the caller lends: a plan in hexadecimal, a refusal, or `too large`. Each
-// function answers how many bytes it has put. The definitions are in specs/Lines.antt.
+// The program's line, put into a slice that the caller lends: a plan in hexadecimal, a refusal, or `too
+// large`. Each function answers how many bytes it has put. The definitions are in specs/Lines.antt.
 ghost use Prim.Native.Nat.{_+_, _*_, _≤_};
 ghost use lib.ListN.{length, take};
 ghost use Rattle.lines.specs.Lines.{hexLine, refusedLine, tooLargeLine};

@@ -1,5 +1,6 @@
 -- The line, case by case, as the code comes to it.
---     routed-refused, routed-plan, routed-room     what routing answered, x, with the plan slice at exit; a plan's line has room
+--     routed-refused, routed-plan, routed-room     what routing answered, x, with the plan slice at exit; a
+--                                                  plan's line has room
 --     good-wide, good-long, good-small             a good job of v vertices and a largest M of m
 --     line-long, line-refused, line-good           any bytes
 use Prim.Native.Nat.{ℕ, _≤_, _<_}
@@ -10,7 +11,7 @@ use lib.ListN.{length, take, replicate, length-replicate}
 use borrow.Author.Tests.{lt-ltb, le-ltb, eq-eqb, ne-eqb}
 use Rattle.job.specs.Grid.{vertices}
 use Rattle.job.specs.Job.{largestMinLength}
-use Rattle.job.specs.Reading.{refused, good, readJob}
+use Rattle.job.specs.Reading.{refused, readJob}
 use Rattle.job.specs.Structs.{gridOf}
 use Rattle.reader.specs.Structs.{largestIn}
 use Rattle.reader.specs.declared.whole.JobRead.{JobRead}

@@ -1,6 +1,7 @@
--- The line that the program writes for the bytes that it read: "A program reads a job from standard input (at most 65,536 bytes, 256 vertices, M 7)
--- and lends a plan of 65,536 bytes. It writes one line: the plan in hexadecimal .., or `refused N at P`, .., or `too large` where the job is good but
--- past these limits or the bytes are too many."
+-- The line that the program writes for the bytes that it read: "A program reads a job from standard input (at
+-- most 65,536 bytes, 256 vertices, M 7) and lends a plan of 65,536 bytes. It writes one line: the plan in
+-- hexadecimal .., or `refused N at P`, .., or `too large` where the job is good but past these limits or the
+-- bytes are too many."
 --     lineOf         from the bytes
 --     readLine       from what reading them gave: a refused job is refused even past the limits
 --     goodLine       a good job
@@ -21,7 +22,8 @@ use Rattle.router.specs.Routing.{RoutingOutcome, routingOf, planIn}
 unfoldable pub outcomeLine : RoutingOutcome → List ℕ
 outcomeLine o = cond (eqb (o .result .refusal) 0) (hexLine (planIn o)) (refusedLine (o .result .refusal) (o .result .place))
 
--- routing with the slices that the program lends, all zeros: a map of 256 vertices, work for them at M 7, and a plan of 65,536 bytes
+-- routing with the slices that the program lends, all zeros: a map of 256 vertices, work for them at M 7, and
+-- a plan of 65,536 bytes
 abbrev pub lent : (bytes : List ℕ) → RoutingOutcome
 lent bytes = routingOf bytes (replicate 256 0) (replicate 8192 0) (replicate 65536 0)
 

@@ -7,7 +7,7 @@ ghost use Rattle.maizespell.specs.Line.{routedLine, goodLine, lineOf};
 use lines::put_hex_line;
 use lines::put_refused_line;
 use lines::put_too_large;
-use marks::reached::Reached;
+use occupants::reached::Reached;
 use reader::layers::largest_least;
 use reader::whole::read_job;
 use router::routing_call::maizespell_routing;
@@ -50,8 +50,8 @@ pub fn line_of(bytes: &[u8], line: &mut [u8]) -> usize
     if 65536 < bytes.len() {
         return put_too_large(line);
     }
-    let mut marks = [0u8; 16384];
-    let read = read_job(bytes, &mut marks);
+    let mut occupants = [0u8; 16384];
+    let read = read_job(bytes, &mut occupants);
     let reached = read.reached;
     match reached {
         Reached::Refused(refusal, place) => put_refused_line(line, refusal, place),

@@ -1,5 +1,6 @@
-// The program: reads a job from standard input and writes one line. It only reads and writes; all that decides is in
-// `line_of`. One byte more than a job may have is read, so that a longer job is seen to be too long.
+// The program: reads a job from standard input and writes one line. It only reads and writes; all that
+// decides is in `line_of`. One byte more than a job may have is read, so that a longer job is seen to be too
+// long.
 mod line;
 
 use libc::STDIN_FILENO;

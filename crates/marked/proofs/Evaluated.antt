@@ -46,7 +46,8 @@ job-of-bytes = (
   (refl, (refl, (refl, (refl, tt)))),
 )
 
--- a row's records are what routing its job by some tables of costs gives, and each of the tables passes the test
+-- a row's records are what routing its job by some tables of costs gives, and each of the tables passes the
+-- test
 abbrev pub IsWritten : Row → Type 0
 IsWritten row = (costs : List Costs) × (written (row .job) costs ≡ right (row .records))
 

@@ -1,5 +1,6 @@
 -- The metal at first, laid net by net.
---     metalTo                                             the pins of the first nets, and nothing of the others
+--     metalTo                                             the pins of the first nets, and nothing of the
+--                                                         others
 --     metal-none, metal-all                               of no net, and of all
 --     metal-more, metal-known                             of one more, which has its list
 --     PinsLaid, pins-begun, -here, -asked, -on, -done     the loop that lays them
@@ -90,7 +91,7 @@ pub record PinsLaid (bytes : List ℕ) (g : Grid) (found : List ℕ) (held pins 
   pub nets : job .nets ≡ before ++ after
   pub number : length before ≡ net
   pub rest : length after ≡ left
-  pub place : netAt job (length before) ≡ at
+  pub position : netAt job (length before) ≡ at
   pub sixteen : length pins ≡ 16
   pub room : vertices g ≤ length found
   pub kept : Beyond (vertices g) held found
@@ -109,7 +110,7 @@ pins-begun {g = g} {found = found} held long sixteen =
       nets = refl;
       number = refl;
       rest = held .nets;
-      place = first-net (held .job) ∙ held .from;
+      position = first-net (held .job) ∙ held .from;
       sixteen = sixteen;
       room = long;
       kept = beyond-refl _ found;
@@ -139,7 +140,7 @@ module _ {bytes : List ℕ} {g : Grid} {found held pins : List ℕ} {at net left
     -- it is loaded from its bit
     pub pins-here : NetHeld bytes g (next .0) at (netAt (so-far .job) (suc (length (so-far .before)))) pins
     pins-here =
-        net-held (so-far .job) (so-far .before) (next .0) (next .1) (so-far .read) split (so-far .sixteen) (so-far .grid) (so-far .place)
+        net-held (so-far .job) (so-far .before) (next .0) (next .1) (so-far .read) split (so-far .sixteen) (so-far .grid) (so-far .position)
 
     -- its pins may be laid
     pub pins-asked : {loaded : NetLoaded} {pins′ : List ℕ} → loaded ≡ netLoaded (bitsOf bytes) at → pins′ ≡ pinsLoaded (bitsOf bytes) g at pins
@@ -164,7 +165,7 @@ module _ {bytes : List ℕ} {g : Grid} {found held pins : List ℕ} {at net left
           nets = split ∙ sym (append-assoc (so-far .before) (next .0 ∷ []) (next .1));
           number = omega (arith, many, so-far .number);
           rest = omega (arith, so-far .rest, ap (λ (l : List Net). length l) (next .2));
-          place = rw (many, isLoaded) (sym (pins-here .next));
+          position = rw (many, isLoaded) (sym (pins-here .next));
           sixteen = rw isPins (pins-here .sixteen);
           room = so-far .room;
           kept = rw laid (beyond-trans (laid-beyond (vertices g) (suc k) (pinsOf g (next .0)) held (pins-here .below)) (so-far .kept));

@@ -1,7 +1,7 @@
 -- The nets of a job that was read, as the code loads them.
 --     JobFits, job-fits     what loading a net asks of the bytes and of the grid
 --     NetHeld, net-held     a net, loaded: its pins are the first of the array, and vertices of the grid
-use Prim.Native.Nat.{ℕ, suc, _+_, _≤_, _<_}
+use Prim.Native.Nat.{ℕ, suc, _≤_, _<_}
 use mathlib.Core.Path.{_≡_, refl, sym, _∙_, subst₂}
 use mathlib.Core.List.{List, [], _∷_, _++_, map}
 use mathlib.Core.Bool.{Bool, true, false}
@@ -96,5 +96,5 @@ net-loaded bytes j before net after pins e split long =
 pub net-held : {bytes : List ℕ} {g : Grid} {at : ℕ} {pins : List ℕ} (j : Job) (before : List Net) (net : Net) (after : List Net) → readJob bytes ≡ good j
     → j .nets ≡ before ++ (net ∷ after) → length pins ≡ 16 → j .grid ≡ g → netAt j (length before) ≡ at
     → NetHeld bytes g net at (netAt j (suc (length before))) pins
-net-held {bytes} {pins = pins} j before net after e split long grid place =
-    subst₂ (λ (h : Grid) (b : ℕ). NetHeld bytes h net b (netAt j (suc (length before))) pins) grid place (net-loaded bytes j before net after pins e split long)
+net-held {bytes} {pins = pins} j before net after e split long grid position =
+    subst₂ (λ (h : Grid) (b : ℕ). NetHeld bytes h net b (netAt j (suc (length before))) pins) grid position (net-loaded bytes j before net after pins e split long)

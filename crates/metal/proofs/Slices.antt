@@ -3,7 +3,8 @@
 --     beyond-store                    so does a store in the need
 --     beyond-by, beyond-at            the entries past the need
 --     zeroed-bare, zeroed-beyond      made zero, the need is zero, and the rest is as found
---     zeroed-only                     where the need is zero and the rest as found, the slice is the one that was found, made zero
+--     zeroed-only                     where the need is zero and the rest as found, the slice is the one that
+--                                     was found, made zero
 --     zeroed-kept                     made zero, it does not matter what the need held
 --     zeroed-more                     made zero with one more
 use Prim.Native.Nat.{ℕ, zero, suc, _+_, _-_, _≤_, _<_}
@@ -41,8 +42,8 @@ beyond-by {n} {held} {found} long same =
 -- an entry past the need is as found
 pub beyond-at : {n : ℕ} {held found : List ℕ} (v : ℕ) → Beyond n held found → n ≤ v → getD held v 0 ≡ getD found v 0
 beyond-at {n} {held} {found} v kept h =
-    let place : v ≡ n + (v - n) = omega arith in
-    rw place (sym (getD-drop n held (v - n) 0) ∙ ap (λ (xs : List ℕ). getD xs (v - n) 0) (kept .rest) ∙ getD-drop n found (v - n) 0)
+    let position : v ≡ n + (v - n) = omega arith in
+    rw position (sym (getD-drop n held (v - n) 0) ∙ ap (λ (xs : List ℕ). getD xs (v - n) 0) (kept .rest) ∙ getD-drop n found (v - n) 0)
 
 -- ---- its need made zero
 

@@ -54,42 +54,42 @@ module _ {count done : ℕ} {found held : List ℕ} (so-far : Zeroing count foun
 -- ---- putting obstacles in
 
 -- so far the obstacles of so many vertices are put in
-pub record Putting (marks : List ℕ) (count : ℕ) (found : List ℕ) (done : ℕ) (held : List ℕ) : Type 0 where
+pub record Putting (occupants : List ℕ) (count : ℕ) (found : List ℕ) (done : ℕ) (held : List ℕ) : Type 0 where
   pub room : count ≤ length found
   pub within : done ≤ count
   pub size : length held ≡ length found
-  pub put : held ≡ withObstacles marks done found
+  pub put : held ≡ withObstacles occupants done found
 
 -- none is
-pub putting-begun : (marks : List ℕ) (count : ℕ) (found : List ℕ) → count ≤ length found → Putting marks count found 0 found
+pub putting-begun : (occupants : List ℕ) (count : ℕ) (found : List ℕ) → count ≤ length found → Putting occupants count found 0 found
 unfolding withObstacles
-putting-begun marks count found h = record { room = h; within = omega arith; size = refl; put = refl }
+putting-begun occupants count found h = record { room = h; within = omega arith; size = refl; put = refl }
 
-module _ {marks : List ℕ} {count done : ℕ} {found held : List ℕ} (so-far : Putting marks count found done held) where
-  -- a vertex with an obstacle's mark
-  pub putting-on : done < count → getD marks done 0 ≡ 1 → Putting marks count found (done + 1) (set held done 257)
+module _ {occupants : List ℕ} {count done : ℕ} {found held : List ℕ} (so-far : Putting occupants count found done held) where
+  -- a vertex with an obstacle's occupant
+  pub putting-on : done < count → getD occupants done 0 ≡ 1 → Putting occupants count found (done + 1) (set held done 257)
   unfolding withObstacles
   putting-on h e =
       record {
         room = so-far .room;
         within = omega arith;
         size = length-set held done 257 ∙ so-far .size;
-        put = rw (add-one, so-far .put, eq-eqb (getD marks done 0) 1 e) refl;
+        put = rw (add-one, so-far .put, eq-eqb (getD occupants done 0) 1 e) refl;
       }
 
-  -- a vertex with another mark
-  pub putting-past : done < count → (getD marks done 0 ≡ 1 → ⊥) → Putting marks count found (done + 1) held
+  -- a vertex with another occupant
+  pub putting-past : done < count → (getD occupants done 0 ≡ 1 → ⊥) → Putting occupants count found (done + 1) held
   unfolding withObstacles
   putting-past h apart =
       record {
         room = so-far .room;
         within = omega arith;
         size = so-far .size;
-        put = rw (add-one, so-far .put, ne-eqb (getD marks done 0) 1 apart) refl;
+        put = rw (add-one, so-far .put, ne-eqb (getD occupants done 0) 1 apart) refl;
       }
 
   -- all are
-  pub putting-done : count ≤ done → held ≡ withObstacles marks count found
+  pub putting-done : count ≤ done → held ≡ withObstacles occupants count found
   putting-done h = let all : count ≡ done = omega arith in rw all (so-far .put)
 
 -- ---- laying an extension

@@ -1,5 +1,5 @@
--- The map while nets are joined: at each vertex the code of the metal on it, 0 bare, a net alone, 256 several nets. Obstacles are put in at
--- the end.
+-- The map while nets are joined: at each vertex the code of the metal on it, 0 bare, a net alone, 256 several
+-- nets. Obstacles are put in at the end.
 --     laidCode, layAll     a net laid on vertices
 --     beyond, extended     the vertices beyond one, along its track, and those of an extension
 --     Codes                each vertex's code is that of the metal on it
@@ -60,7 +60,7 @@ Bare n codes = (v : ℕ) → v < n → getD codes v 0 ≡ 0
 unfoldable pub zeroed : (n : ℕ) → List ℕ → List ℕ
 zeroed n xs = replicate n 0 ++ drop n xs
 
--- 257 put in where a mark says that there is an obstacle, in the first n
-unfoldable pub withObstacles : (marks : List ℕ) → (n : ℕ) → (codes : List ℕ) → List ℕ
-withObstacles marks zero codes = codes
-withObstacles marks (suc n) codes = cond (eqb (getD marks n 0) 1) (set (withObstacles marks n codes) n 257) (withObstacles marks n codes)
+-- 257 put in where the occupant is an obstacle, in the first n
+unfoldable pub withObstacles : (occupants : List ℕ) → (n : ℕ) → (codes : List ℕ) → List ℕ
+withObstacles occupants zero codes = codes
+withObstacles occupants (suc n) codes = cond (eqb (getD occupants n 0) 1) (set (withObstacles occupants n codes) n 257) (withObstacles occupants n codes)

@@ -1,4 +1,5 @@
-// Laying metal: at each vertex the map holds 0, the one net that covers it, counted from 1, or 256 for several.
+// Laying metal: at each vertex the map holds 0, the one net that covers it, counted from 1, or 256 for
+// several.
 ghost use mathlib.Core.Path.{_≡_};
 ghost use Prim.Native.Nat.{_<_, _≤_};
 ghost use lib.ListN.{length, getD, set};
@@ -53,12 +54,12 @@ pub fn lay_extension(map: &mut [u16], grid: Grid, v: usize, extension: Extension
 }
 
 // Puts the obstacles into the first vertices.
-pub fn put_obstacles(map: &mut [u16], marks: &[u8; 16384], count: usize)
+pub fn put_obstacles(map: &mut [u16], occupants: &[u8; 16384], count: usize)
     requires { ⌜ (count ≤ 16384) × (count ≤ length (now map)) ⌝ }
-    ensures { λ _. ⌜ now (map .exit) ≡ withObstacles (now (marks .entry)) count (now (map .entry)) ⌝ }
+    ensures { λ _. ⌜ now (map .exit) ≡ withObstacles (now (occupants .entry)) count (now (map .entry)) ⌝ }
 {
     for v in 0..count {
-        if marks[v] == 1 {
+        if occupants[v] == 1 {
             map[v] = OBSTACLE;
         }
     }

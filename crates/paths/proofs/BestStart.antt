@@ -10,7 +10,7 @@ use Rattle.paths.specs.Systems.{System, Lawful}
 use Rattle.paths.specs.Distances.{Cost, fin, inf, within, Table}
 use Rattle.paths.specs.Starts.{none, first, best, Chosen, Starts, GoodStarts, startCost}
 use Rattle.paths.specs.Forward.{LowerBound, Forward}
-use Rattle.paths.specs.Marks.{OnBest}
+use Rattle.paths.specs.Leads.{OnBest}
 use Rattle.paths.proofs.Costs.{within-only, within-inf}
 use Rattle.paths.proofs.Routes.{route-rival}
 use Rattle.paths.proofs.Tables.{table-bounds}

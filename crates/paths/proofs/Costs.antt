@@ -1,9 +1,12 @@
 -- Laws of costs.
 --     inf-not-fin                                 no cost is both finite and none
 --     within-trans, within-only                   `within` is an order
---     within-inf, within-fin                      every cost is within none; what is within a finite cost is finite
---     plus-within, through-fin                    a price added to both sides; a finite cost through a move, taken apart
---     leastOf-below, leastOf-one                  the least of some is within each of them, and is one of them
+--     within-inf, within-fin                      every cost is within none; what is within a finite cost is
+--                                                 finite
+--     plus-within, through-fin                    a price added to both sides; a finite cost through a move,
+--                                                 taken apart
+--     leastOf-below, leastOf-one                  the least of some is within each of them, and is one of
+--                                                 them
 use Prim.Native.Nat.{ℕ, zero, suc, _+_, _≤_, _<_}
 use native.Mathlib.Omega.{arith}
 use native.Mathlib.Decide.{ℕ-discrete, decLe}

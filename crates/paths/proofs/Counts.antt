@@ -1,6 +1,8 @@
 -- A pigeonhole: where no number stands twice in a list, at most n of its entries are below n.
---     count, below                              how often a number stands in a list; how many entries are below n
---     count-none, count-other, count-more       an empty list; an entry more that is another; an entry more takes none away
+--     count, below                              how often a number stands in a list; how many entries are
+--                                               below n
+--     count-none, count-other, count-more       an empty list; an entry more that is another; an entry more
+--                                               takes none away
 --     Once, once-none, once-more                no number stands twice
 --     below-none, below-more                    an empty list; an entry more that is below
 --     once-below                                the pigeonhole

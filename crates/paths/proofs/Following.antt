@@ -1,12 +1,16 @@
 -- Following a table, move by move.
---     keeps-cost, cost-keeps                   a move keeps a cost where it has just that cost with what it leads to
+--     keeps-cost, cost-keeps                   a move keeps a cost where it has just that cost with what it
+--                                              leads to
 --     lowest-keeps                             where a move keeps a cost, the lowest that does is no higher
---     follow-none, follow-goal, follow-inf     nothing is followed with no move left, at a goal, and where the cost is infinite
+--     follow-none, follow-goal, follow-inf     nothing is followed with no move left, at a goal, and where
+--                                              the cost is infinite
 --     follow-step                              else the lowest move that keeps the cost, then the rest
 --     follow-take                              fewer moves are the first of more
 --     Onward, follow-onward                    where something is followed: the first move, and the rest
---     Kept, kept                               in a table the lowest move that keeps a finite entry is legal, and what it leads to
---     follow-rest                              with as many moves as the cost, following a table ends in a goal at the table's cost
+--     Kept, kept                               in a table the lowest move that keeps a finite entry is legal,
+--                                              and what it leads to
+--     follow-rest                              with as many moves as the cost, following a table ends in a
+--                                              goal at the table's cost
 use Prim.Native.Nat.{ℕ, zero, suc, _+_, _≤_, _<_}
 use native.Mathlib.Omega.{arith}
 use mathlib.Core.Path.{_≡_, refl, sym, ap, fun-ext}
@@ -103,7 +107,8 @@ module _ (S : System) (D : S .Place → Cost) where
       by true g again = rw (follow-goal (suc j) g, follow-goal (suc k) g)
       by false g again = rw (follow-on j g, follow-on k g, moveOn-take s (D s) k) (ap (moveOn S D s (D s)) (fun-ext again))
 
--- where something is followed: the entry is finite, the lowest move that keeps it leads on, and the rest follows
+-- where something is followed: the entry is finite, the lowest move that keeps it leads on, and the rest
+-- follows
 pub record Onward (S : System) (D : S .Place → Cost) (k : ℕ) (s : S .Place) : Type 0 where
   pub cost : ℕ
   pub price : ℕ

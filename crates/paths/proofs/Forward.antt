@@ -1,7 +1,8 @@
 -- What a forward search found is the cheapest from any start.
 --     one-bounds                   in a lawful system every rival costs at least 1
 --     from-rival, from-route       a walk from a start and what goes on from its end
---     forward-least                no rival from a start costs less than the search found; where it found none there is no rival
+--     forward-least                no rival from a start costs less than the search found; where it found
+--                                  none there is no rival
 --     forward-some                 some join costs what it found
 use Prim.Native.Nat.{ℕ, _+_, _≤_, _<_}
 use native.Mathlib.Omega.{arith}

@@ -1,9 +1,12 @@
 -- The join from the best start is the one that is taken.
---     at-start, is-start             the cost from a start is its entry; a number with a finite cost is a start
---     start-joins, start-first       the best start with what is followed from it is a join, and every other join is behind it
---     start-foremost, foremost-only        so it is taken, and no other is
---     start-least, start-none        no rival from a start costs less; where no start is best there is no rival
---     start-dist                     a table has the best start that `dist` has
+--     at-start, is-start               the cost from a start is its entry; a number with a finite cost is a
+--                                      start
+--     start-joins, start-first         the best start with what is followed from it is a join, and every
+--                                      other join is behind it
+--     start-foremost, foremost-only    so it is taken, and no other is
+--     start-least, start-none          no rival from a start costs less; where no start is best there is no
+--                                      rival
+--     start-dist                       a table has the best start that `dist` has
 use Prim.Native.Nat.{ℕ, _≤_, _<_}
 use native.Mathlib.Omega.{arith}
 use native.Mathlib.Nat.{le-refl}

@@ -15,7 +15,7 @@ pub mod Joins
 pub mod Forward
 pub mod OnBest
 pub mod BestStart
-pub mod Marks
-pub mod FollowMarks
-pub mod JoinMarks
+pub mod Leads
+pub mod FollowLeads
+pub mod JoinLeads
 pub mod Cheapest

@@ -2,6 +2,7 @@
 --     lowest-here, lowest-next     it is the first where that passes, and else the lowest of the others
 --     lowest-passes                where one passes, the lowest is no higher and passes
 --     lowest-is                    one that passes, where no lower one does, is the lowest
+--     lowest-one, lowest-none      it passes where it is one of them, and is past them where none passes
 --     lowest-same                  tests that agree have the same lowest
 use Prim.Native.Nat.{ℕ, zero, suc, _+_, _≤_, _<_}
 use native.Mathlib.Omega.{arith}
@@ -51,6 +52,21 @@ module _ (test : ℕ → Bool) where
       by : Dec (lowestFrom test 0 n ≡ j) → (lowestFrom test 0 n ≤ j) × (test (lowestFrom test 0 n) ≡ true) → lowestFrom test 0 n ≡ j
       by (yes e) p = e
       by (no e) (h, passes) = absurd (true≢false (sym passes ∙ none (lowestFrom test 0 n) (omega arith)))
+
+  -- where it is one of them it passes
+  pub lowest-one : (m n : ℕ) → lowestFrom test m n < m + n → test (lowestFrom test m n) ≡ true
+  lowest-one m zero h = absurd (omega (arith, lowest-past m))
+  lowest-one m (suc n) h = by (test m) refl (lowest-one (suc m) n)
+    where
+      by : (b : Bool) → test m ≡ b → (lowestFrom test (suc m) n < suc m + n → test (lowestFrom test (suc m) n) ≡ true)
+          → test (lowestFrom test m (suc n)) ≡ true
+      by true e again = rw (lowest-here m n e) e
+      by false e again = rw (lowest-next m n e) (again (omega (arith, h, lowest-next m n e)))
+
+  -- where none passes it is past them
+  pub lowest-none : (m n : ℕ) → ((j : ℕ) → j < m + n → test j ≡ false) → lowestFrom test m n ≡ m + n
+  lowest-none m zero none = lowest-past m ∙ omega arith
+  lowest-none m (suc n) none = lowest-next m n (none m (omega arith)) ∙ lowest-none (suc m) n (λ j h. none j (omega arith)) ∙ omega arith
 
 -- two tests that agree below k have the same lowest
 pub lowest-same : (test other : ℕ → Bool) (k : ℕ) → ((j : ℕ) → j < k → test j ≡ other j) → (m n : ℕ) → m + n ≤ k

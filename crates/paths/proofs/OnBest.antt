@@ -1,6 +1,7 @@
 -- The places of cheapest joins, move by move. D is a table of the costs to go, and a forward search found C.
 --     near-best                     a place on a cheapest join is within C by the lower bound
---     keeps-leads, leads-keeps      there, a move keeps the table's cost just where it leads to a goal at C or on to such a place at its exact distance
+--     keeps-leads, leads-keeps      there, a move keeps the table's cost just where it leads to a goal at C
+--                                   or on to such a place at its exact distance
 --     on-leads, leads-on            a place is on a cheapest join just where such a move is
 --     start-on, on-start            a start is on a cheapest join just where the table has C
 use Prim.Native.Nat.{ℕ, _+_, _≤_, _<_}
@@ -13,7 +14,7 @@ use Rattle.paths.specs.Rivals.{Route}
 use Rattle.paths.specs.Distances.{Cost, fin, within, through, Table, keeps, lowestKeeping}
 use Rattle.paths.specs.Starts.{Starts, GoodStarts}
 use Rattle.paths.specs.Forward.{From, LowerBound, Forward}
-use Rattle.paths.specs.Marks.{OnBest, onBest, Leads, ends, goesOn}
+use Rattle.paths.specs.Leads.{OnBest, onBest, Leads, ends, goesOn}
 use Rattle.paths.proofs.Costs.{within-fin, through-fin}
 use Rattle.paths.proofs.Routes.{route-rival, rest-more}
 use Rattle.paths.proofs.Following.{keeps-cost, cost-keeps, kept}

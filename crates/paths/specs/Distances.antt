@@ -2,10 +2,12 @@
 --     Cost, plus, least, within      a cost, or none
 --     leastOf                        the least of the first n costs
 --     dist                           the least cost in at most so many moves (0 at a goal)
---     Table                          a table of costs that no move lowers and whose every finite entry a move supports
+--     Table                          a table of costs that no move lowers and whose every finite entry a move
+--                                    supports
 --     lowestKeeping                  the lowest move that keeps the table's cost
 --     follow                         the route that takes it at each place
--- `dist` is never to be evaluated: its cost explodes. A concrete table is shown to be a `Table`, and so to be `dist`.
+-- `dist` is never to be evaluated: its cost explodes. A concrete table is shown to be a `Table`, and so to be
+-- `dist`.
 use Prim.Native.Nat.{ℕ, zero, suc, _+_, _≤_, _<_, min}
 use mathlib.Core.Path.{_≡_}
 use mathlib.Core.List.{List, [], _∷_}
@@ -64,7 +66,8 @@ module _ (S : System) where
   dist zero s = cond (S .goal s) (fin 0) inf
   dist (suc k) s = cond (S .goal s) (fin 0) (leastOf (λ m. through (dist k) (S .step s m)) (S .moves))
 
-  -- what a relaxation leaves when a whole pass changes nothing: 0 at goals, no move lowers an entry, and a move supports each finite entry
+  -- what a relaxation leaves when a whole pass changes nothing: 0 at goals, no move lowers an entry, and a
+  -- move supports each finite entry
   pub record Table (Good : S .Place → Type 0) (D : S .Place → Cost) : Type 0 where
     pub goals : {s : S .Place} → Good s → S .goal s ≡ true → D s ≡ fin 0
     pub settled : {s : S .Place} {m : ℕ} → Good s → S .goal s ≡ false → m < S .moves → within (D s) (through D (S .step s m))
@@ -84,7 +87,8 @@ module _ (S : System) where
   moveOn D s inf next = []
   moveOn D s (fin c) next = let m = lowestKeeping D s c in onward m next (S .step s m)
 
-  -- the route from a place with a finite entry: at each place the lowest move that keeps the entry, until a goal, at most k moves
+  -- the route from a place with a finite entry: at each place the lowest move that keeps the entry, until a
+  -- goal, at most k moves
   unfoldable pub follow : (S .Place → Cost) → (k : ℕ) → S .Place → List ℕ
   follow D zero s = []
   follow D (suc k) s = elim (S .goal s) [ true ↦ [] | false ↦ moveOn D s (D s) (λ t. follow D k t) ]

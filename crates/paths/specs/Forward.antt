@@ -3,10 +3,11 @@
 --     LowerBound     no rival costs less than so much
 --     Enters         a move into a goal from a place that the search came to, and the cost of the walk
 --     Forward        what the search has when it stops
--- E is the cost of the walk to each place, infinite where the search did not come. C is the cost of the cheapest goal found, infinite where there
--- is none, so that one record says both ends of a search. h is what is left at least: 1 would do for a search without a bound of its own,
--- since prices are at least 1, and "e + h within C" is then "e below C". Places beyond C may be left as they are, with any walk's cost, and
--- nothing is asked of the entries of goals, so that a search need not keep them.
+-- E is the cost of the walk to each place, infinite where the search did not come. C is the cost of the
+-- cheapest goal found, infinite where there is none, so that one record says both ends of a search. h is what
+-- is left at least: 1 would do for a search without a bound of its own, since prices are at least 1, and "e +
+-- h within C" is then "e below C". Places beyond C may be left as they are, with any walk's cost, and nothing
+-- is asked of the entries of goals, so that a search need not keep them.
 use Prim.Native.Nat.{ℕ, _+_, _≤_, _<_}
 use mathlib.Core.Path.{_≡_}
 use mathlib.Core.List.{List}
@@ -30,8 +31,8 @@ module _ (S : System) (Good : S .Place → Type 0) where
   pub data Enters (E : S .Place → Cost) (n : ℕ) : Type 0 where
     enters : {p q : S .Place} {e m c : ℕ} → Good p → S .goal p ≡ false → E p ≡ fin e → Legal S p m c q → S .goal q ≡ true → e + c ≡ n → Enters E n
 
-  -- the search came to every start; each entry is the cost of a walk; no move from a place within C lowers an entry, or enters a goal for less
-  -- than C; and where C is finite, some move enters a goal for C
+  -- the search came to every start; each entry is the cost of a walk; no move from a place within C lowers an
+  -- entry, or enters a goal for less than C; and where C is finite, some move enters a goal for C
   pub record Forward (X : Starts S) (h : S .Place → ℕ) (E : S .Place → Cost) (C : Cost) : Type 0 where
     pub starts : {v : ℕ} → v < X .many → X .isStart v ≡ true → E (X .place v) ≡ fin 0
     pub reached : {p : S .Place} {e : ℕ} → Good p → S .goal p ≡ false → E p ≡ fin e → From S X p e

@@ -3,4 +3,4 @@ pub mod Rivals
 pub mod Distances
 pub mod Starts
 pub mod Forward
-pub mod Marks
+pub mod Leads

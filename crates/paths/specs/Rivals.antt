@@ -1,5 +1,6 @@
 -- Walks to a goal.
---     Rival     a list of moves, one or more, legal move by move, that enters a goal with its last move, and its cost
+--     Rival     a list of moves, one or more, legal move by move, that enters a goal with its last move, and
+--               its cost
 --     Route     a rival that enters no goal before
 --     Before    the order of move lists: the one that comes first by move number
 use Prim.Native.Nat.{ℕ, _+_, _<_}
@@ -19,7 +20,8 @@ module _ (S : System) where
     enters : {s t : S .Place} {m p : ℕ} → Legal S s m p t → S .goal t ≡ true → Route s (m ∷ []) p
     walks : {s t : S .Place} {m p c : ℕ} {ms : List ℕ} → Legal S s m p t → S .goal t ≡ false → Route t ms c → Route s (m ∷ ms) (p + c)
 
--- "the move list that comes first by move number": at the first difference the lower move; a list comes before its continuations
+-- "the move list that comes first by move number": at the first difference the lower move; a list comes
+-- before its continuations
 pub data Before : List ℕ → List ℕ → Type 0 where
   ends : {n : ℕ} {ns : List ℕ} → Before [] (n ∷ ns)
   lower : {m n : ℕ} {ms ns : List ℕ} → m < n → Before (m ∷ ms) (n ∷ ns)

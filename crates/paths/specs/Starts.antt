@@ -3,7 +3,7 @@
 --     Chosen, Chooses                  what that means, said without a recursion
 --     Starts, GoodStarts, startCost    numbered starts of a system; each good and no goal; the cost from each
 --     Join, Joins                      a start with moves and a cost; these are a route from there
---     Ahead, Foremost                     which of two joins is taken; the join that no other is ahead of
+--     Ahead, Foremost                  which of two joins is taken; the join that no other is ahead of
 --     joinFrom                         the join from a start that follows a table
 use Prim.Native.Nat.{ℕ, zero, suc, _<_}
 use mathlib.Core.Path.{_≡_}

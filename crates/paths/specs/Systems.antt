@@ -23,7 +23,8 @@ pub record Legal (S : System) (s : S .Place) (m p : ℕ) (t : S .Place) : Type 0
   pub known : m < S .moves
   pub leads : S .step s m ≡ to p t
 
--- good places have codes of their own below `size`; a legal move leads from one to another, at a price from 1 to `dearest`
+-- good places have codes of their own below `size`; a legal move leads from one to another, at a price from 1
+-- to `dearest`
 pub record Lawful (S : System) (Good : S .Place → Type 0) (code : S .Place → ℕ) (size dearest : ℕ) : Type 0 where
   pub keeps : {s t : S .Place} {m p : ℕ} → Good s → Legal S s m p t → Good t
   pub costs : {s t : S .Place} {m p : ℕ} → Good s → Legal S s m p t → 1 ≤ p

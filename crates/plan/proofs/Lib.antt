@@ -2,13 +2,18 @@
 --     TwoWay      reading accepts exactly the legal plans
 --     Moves       reading the moves of a join
 --     JoinRead    reading a join after its flag
---     NetsRead    reading the records of nets
+--     Entries     the entries of a net: their bits, and what stands after a join
+--     NetRead     reading the records of a net
+--     NetsRead    reading the records of all nets
 --     Unjoined    how many pins are unjoined
 --     Records     every record that routing writes is cheapest
---     Routed      the plan that routing makes of a good job is legal, read as what routing gives, and cheapest
+--     Routed      the plan that routing makes of a good job is legal, read as what routing gives, and
+--                 cheapest
 pub mod TwoWay
 pub mod Moves
 pub mod JoinRead
+pub mod Entries
+pub mod NetRead
 pub mod NetsRead
 pub mod Unjoined
 pub mod Records

@@ -1,4 +1,5 @@
--- Reading the moves of a join: good exactly where their bits stand there, they walk, and the last is the first to enter an unjoined pin.
+-- Reading the moves of a join: good exactly where their bits stand there, they walk, and the last is the
+-- first to enter an unjoined pin.
 --     field-placed          a field stands there and fits, where it is whole and holds its number
 --     agree-holds           two tests agree
 --     judged-good           a move that is judged good

@@ -1,4 +1,5 @@
--- Every record that routing writes is cheapest: a join has no cheaper rival, and where there is none there is no rival.
+-- Every record that routing writes is cheapest: a join has no cheaper rival, and where there is none there is
+-- no rival.
 --     cheapest-record      one record that is the join of what stands
 --     routing-cheapest     all of a job's
 use mathlib.Core.Path.{_≡_, refl, sym, subst}

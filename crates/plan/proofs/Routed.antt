@@ -1,5 +1,7 @@
--- The plan that routing makes of a good job is legal, it is read as what routing gives, and every record in it is cheapest.
---     NetsRouted               what was routed of some nets is their entries, with the metal and the totals after them
+-- The plan that routing makes of a good job is legal, it is read as what routing gives, and every record in
+-- it is cheapest.
+--     NetsRouted               what was routed of some nets is their entries, with the metal and the totals
+--                              after them
 --     routing-entries          so is what was routed of a job
 --     routing-legal            routing's plan is legal
 --     routing-read             and read as what routing gives
@@ -28,7 +30,8 @@ use Rattle.plan.specs.Reading.{readPlan}
 use Rattle.plan.specs.Legal.{NetEntries, allJoined, gaveUp, joins, JobEntries, noNets, nextNet, LegalPlan}
 use Rattle.plan.specs.Claim.{Cheapest}
 use Rattle.plan.proofs.Unjoined.{without-shorter, none-left, begun-length}
-use Rattle.plan.proofs.NetsRead.{netTotals, jobMetal, jobTotals}
+use Rattle.plan.proofs.NetRead.{netTotals}
+use Rattle.plan.proofs.NetsRead.{jobMetal, jobTotals}
 use Rattle.plan.proofs.TwoWay.{plan-below, plan-read}
 use Rattle.plan.proofs.Records.{routing-cheapest}
 
@@ -110,7 +113,8 @@ module _ {j : Job} (good-j : GoodJob j) where
       let rest = nets-entries (suc k) nets (this .metal) (this .totals) (h .1) in
       record { entries = nextNet own (rest .entries) refl; left = rest .left; ends = ap (jobTotals (rest .entries)) ends ∙ rest .ends }
 
-  -- routing's entries are the nets' in order, each legal against what the earlier ones make, with its metal and totals after them
+  -- routing's entries are the nets' in order, each legal against what the earlier ones make, with its metal
+  -- and totals after them
   pub routing-entries : NetsRouted j 0 (j .nets) (metalAtFirst j) noTotals (routing j)
   unfolding routing
   routing-entries = nets-entries 0 (j .nets) (metalAtFirst j) noTotals (nets-apart good-j)

@@ -2,7 +2,8 @@
 --     entries-below               the bits of entries are bits
 --     plan-below                  a plan's bytes are below 256
 --     plan-legal                  a plan that is read is legal, with the entries that are read
---     madeBy, plan-read           a legal plan is read, with its entries and the metal and the totals after them
+--     madeBy, plan-read           a legal plan is read, with its entries and the metal and the totals after
+--                                 them
 --     plan-two-way                the law
 --     plan-entries, plan-only     the entries of a legal plan are those that are read, and the only ones
 use Prim.Native.Nat.{ℕ, _-_, _<_}

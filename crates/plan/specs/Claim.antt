@@ -1,4 +1,5 @@
--- Demand 3 as one claim: no join of a plan has a cheaper rival, and where a record says none there is no rival.
+-- Demand 3 as one claim: no join of a plan has a cheaper rival, and where a record says none there is no
+-- rival.
 --     RivalOf, CheapestRecord     of one record
 --     Cheapest                    of a job and a plan's bytes
 use Prim.Native.Nat.{ℕ, _≤_}
@@ -22,8 +23,8 @@ CheapestRecord j e (join start moves cost) =
     RivalOf j e start moves cost × ((s : ℕ) (ms : List ℕ) (c : ℕ) → RivalOf j e s ms c → cost ≤ c)
 CheapestRecord j e none = (s : ℕ) (ms : List ℕ) (c : ℕ) → RivalOf j e s ms c → ⊥
 
--- the plan holds each net's records in order until all its pins are joined or one says none, its bits are theirs with zero fill, and every record
--- is cheapest: "One claim over all records and rivals."
+-- the plan holds each net's records in order until all its pins are joined or one says none, its bits are
+-- theirs with zero fill, and every record is cheapest: "One claim over all records and rivals."
 pub record Cheapest (j : Job) (bytes : List ℕ) : Type 0 where
   pub plan : LegalPlan j bytes
   pub cheapest : All (λ e. CheapestRecord j e (e .written)) (plan .entries)

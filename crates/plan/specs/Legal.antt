@@ -1,5 +1,6 @@
--- A legal plan, stated without reading: its records, net by net in order, are joins until every pin is joined, or end with one none; each join is
--- legal and rightly priced against what the earlier ones make; and the plan's bytes are the records' bits with zero fill.
+-- A legal plan, stated without reading: its records, net by net in order, are joins until every pin is
+-- joined, or end with one none; each join is legal and rightly priced against what the earlier ones make; and
+-- the plan's bytes are the records' bits with zero fill.
 use Prim.Native.Nat.{ℕ, suc, _^_, _<_}
 use mathlib.Core.Path.{_≡_}
 use mathlib.Core.List.{List, [], _∷_, _++_, map}
@@ -24,8 +25,8 @@ pub record LegalJoin (j : Job) (k : ℕ) (s : Standing) (start : ℕ) (moves : L
   pub walked : walk (techOf j) (viewOf j k (s .metal)) (startAt start) moves ≡ walked last sum
   pub stands : after ≡ joinedBy k s (last .vertex) sum
 
--- the entries of net k, from what stands to the metal that it leaves: joins until all pins are joined, or one none at the end; before each
--- stands what the earlier ones make
+-- the entries of net k, from what stands to the metal that it leaves: joins until all pins are joined, or one
+-- none at the end; before each stands what the earlier ones make
 pub data NetEntries (j : Job) (k : ℕ) : Standing → List Entry → List (List ℕ) → Type 0 where
   allJoined : {s : Standing} {metal : List (List ℕ)} → s .unjoined ≡ [] → metal ≡ s .metal → NetEntries j k s [] metal
   gaveUp : {s : Standing} {metal : List (List ℕ)} {e : Entry} → (s .unjoined ≡ [] → ⊥) → e ≡ record { net = k; before = s; written = none }

@@ -1,5 +1,5 @@
--- Reading a plan against a job: its entries with the map's metal and the totals, or a refusal from 15 to 18 with its place. "each move judged
--- before the next is read"
+-- Reading a plan against a job: its entries with the map's metal and the totals, or a refusal from 15 to 18
+-- with its place. "each move judged before the next is read"
 --     group            15 where a flag, a start with its count, a move or a cost is not whole
 --     readMoves        the moves of a join
 --     readRecord       a record
@@ -41,7 +41,8 @@ unfoldable pub agree : Bool → Bool → Bool
 agree true b = b
 agree false b = not b
 
--- "17, move: move not legal, unjoined pin entered early, or last move enters none": a move enters an unjoined pin just where it is the last
+-- "17, move: move not legal, unjoined pin entered early, or last move enters none": a move enters an unjoined
+-- pin just where it is the last
 unfoldable pub judged : (at : ℕ) (last : Bool) (unjoined : List ℕ) → Stepped → Read Made
 judged at last unjoined illegal = refused 17 at
 judged at last unjoined (legal made) = do
@@ -97,7 +98,8 @@ unfoldable pub unlessJoined : (unjoined : List ℕ) → Progress → Read Progre
 unlessJoined [] done records = good done
 unlessJoined (p ∷ ps) done records = records
 
--- the records of a net until all its pins are joined or one says none; at most n joins, and n is no fewer than the unjoined pins, so at 0 all are joined
+-- the records of a net until all its pins are joined or one says none; at most n joins, and n is no fewer
+-- than the unjoined pins, so at 0 all are joined
 unfoldable pub readNet : (bits : List ℕ) → Job → (k n : ℕ) → Standing → Totals → (at : ℕ) → Read Progress
 readNet bits j k zero s totals at = good (record { entries = []; metal = s .metal; totals = withNet totals; at = at })
 readNet bits j k (suc n) s totals at =

@@ -1,4 +1,5 @@
--- What follows the head, way out by way out: a layer line is refused, something after the lines is, or the job is good.
+-- What follows the head, way out by way out: a layer line is refused, something after the lines is, or the
+-- job is good.
 --     Told                   what reading after the head, or a whole job, promises
 --     told-refused-job       after a refusal
 --     lines-refused-job      a layer line is refused
@@ -17,20 +18,20 @@ use Rattle.job.specs.Good.{allPins}
 use Rattle.job.specs.Structs.{gridOf, headOf}
 use Rattle.job.specs.Structs.{layersOf}
 use Rattle.reader.specs.Structs.{layersRead, jobEnd, jobRead}
-use Rattle.marks.specs.Marks.{Marks, answerOf, marksOf, groupsFrom}
-use Rattle.marks.specs.declared.reached.Reached.{Reached}
+use Rattle.occupants.specs.Occupants.{Occupants, answerOf, occupantsOf, groupsFrom}
+use Rattle.occupants.specs.declared.reached.Reached.{Reached}
 use Rattle.job.specs.declared.groups.Head.{Head as HeadStruct}
 use Rattle.reader.specs.declared.layers.LayersRead.{LayersRead}
 use Rattle.reader.specs.declared.whole.JobRead.{JobRead}
 use Rattle.job.proofs.Binds.{good-good, then-good, bind-good}
-use Rattle.marks.proofs.Marking.{readRest, rest-of-job, groups-refused, groups-good, many-length, nets-length}
+use Rattle.occupants.proofs.Covering.{readRest, rest-of-job, groups-refused, groups-good, many-length, nets-length}
 
--- x is what reading answers, and after a good job the marks tell its obstacles and pins
+-- x is what reading answers, and after a good job the occupants tell its obstacles and pins
 abbrev pub Told : Read Job → JobRead → List ℕ → Type 0
-Told r x marks = (x ≡ jobRead r) × ((j : Job) → r ≡ good j → Marks (j .grid) (j .obstacles) (allPins (j .nets)) marks)
+Told r x occupants = (x ≡ jobRead r) × ((j : Job) → r ≡ good j → Occupants (j .grid) (j .obstacles) (allPins (j .nets)) occupants)
 
--- after a refusal the marks tell nothing
-pub told-refused-job : {r : Read Job} {x : JobRead} {marks : List ℕ} (n p : ℕ) → r ≡ refused n p → x ≡ jobRead (refused n p) → Told r x marks
+-- after a refusal the occupants tell nothing
+pub told-refused-job : {r : Read Job} {x : JobRead} {occupants : List ℕ} (n p : ℕ) → r ≡ refused n p → x ≡ jobRead (refused n p) → Told r x occupants
 told-refused-job {r} n p e same = (same ∙ ap jobRead (sym e), λ j h. let z : _≡_ {A = ℕ} 0 1 = cc in absurd (omega arith))
 
 -- reading the lines answered a refusal, or the lines
@@ -79,7 +80,7 @@ module _ (bits : List ℕ) (h : HeadStruct) {x : LayersRead}
   lines-refused-job n p e = rw (rest-of-job bits (headOf h), layers-refused _ _ x n p lines e)
 
   module _ (m : List ℕ) (at : ℕ) (there : x .reached ≡ Reached.At at) (small : vertices (gridOf (h .grid)) ≤ 16384)
-      (bare : Marks (gridOf (h .grid)) [] [] m) where
+      (bare : Occupants (gridOf (h .grid)) [] [] m) where
     -- the lines, and then the rest
     rest-job : (r : Read (List Obstacle × List Net)) → readRest bits (headOf h) ≡ r
         → (ls : List Layer) × (x .layers ≡ layersOf ls) × (readAfterHead bits (headOf h) ≡ _>>=_ r (λ rest. good (jobFrom (headOf h) ls rest)))
@@ -100,12 +101,12 @@ module _ (bits : List ℕ) (h : HeadStruct) {x : LayersRead}
 
     -- the job is good
     pub rest-good-job : (end : ℕ) → answerOf (groupsFrom bits (headOf h) m) ≡ Reached.At end
-        → Told (readAfterHead bits (headOf h)) (record { reached = Reached.At end; head = h; layers = x .layers }) (marksOf (groupsFrom bits (headOf h) m))
+        → Told (readAfterHead bits (headOf h)) (record { reached = Reached.At end; head = h; layers = x .layers }) (occupantsOf (groupsFrom bits (headOf h) m))
     unfolding _>>=_ jobRead jobEnd netsAt obstaclesAt
     rest-good-job end e = by (readRest bits (headOf h)) refl
       where
         by : (r : Read (List Obstacle × List Net)) → readRest bits (headOf h) ≡ r
-            → Told (readAfterHead bits (headOf h)) (record { reached = Reached.At end; head = h; layers = x .layers }) (marksOf (groupsFrom bits (headOf h) m))
+            → Told (readAfterHead bits (headOf h)) (record { reached = Reached.At end; head = h; layers = x .layers }) (occupantsOf (groupsFrom bits (headOf h) m))
         by (refused k q) f =
             let g = groups-refused bits (headOf h) m k q small bare f in
             let z : _≡_ {A = ℕ} 0 1 = cc in absurd (omega arith)

@@ -22,13 +22,13 @@ use Rattle.job.specs.Reading.{Read, refused, good, _>>=_, _>>_, rule, readMany,
 use Rattle.job.specs.Structs.{eight, layersOf}
 use Rattle.reader.specs.Structs.{largestIn, withLine, layerRead, layersRead}
 use Rattle.job.specs.Structs.{layerStruct, layerGroup}
-use Rattle.marks.specs.declared.reached.Reached.{Reached}
+use Rattle.occupants.specs.declared.reached.Reached.{Reached}
 use Rattle.job.specs.declared.layers.Layers.{Layers}
 use Rattle.reader.specs.declared.layers.LayerRead.{LayerRead}
 use Rattle.job.specs.declared.groups.LayerGroup.{LayerGroup}
 use Rattle.job.specs.declared.groups.Layer.{Layer as LayerStruct}
 
--- one number more, at the place after the others
+-- one number more, at the position after the others
 eight-more : (xs : List ℕ) (x : ℕ) → length xs < 8 → set (eight xs) (length xs) x ≡ eight (xs ++ (x ∷ []))
 unfolding eight
 eight-more xs x h =

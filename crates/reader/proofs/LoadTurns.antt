@@ -1,11 +1,14 @@
 -- Loading a net's pins and boxes: what stands at a bit, and what is stored, then the rest, is the whole.
---     vertex-uncut, box-uncut, net-uncut                a group whose bits are there is not cut
---     vertex-told, box-told                             a group that is answered is the one that stands there
---     vertex-fields                                     the numbers of a vertex lie in their fields' ranges
---     net-head-there, NetThere, net-there               the head of a net, with all that it counts
---     sets-append                                       storing two runs is storing the first, and the second behind it
---     PinsToLoad, pins-begin, pins-turn, pins-end         the loop over the pins: before the first turn, a turn, after the last
---     BoxesToLoad, boxes-begin, boxes-turn, boxes-end     the loop over the boxes
+--     vertex-uncut, box-uncut, net-uncut                 a group whose bits are there is not cut
+--     vertex-told, box-told                              a group that is answered is the one that stands
+--                                                        there
+--     vertex-fields                                      the numbers of a vertex lie in their fields' ranges
+--     net-head-there, NetThere, net-there                the head of a net, with all that it counts
+--     sets-append                                        storing two runs is storing the first, and the
+--                                                        second behind it
+--     PinsToLoad, pins-begin, pins-turn, pins-end        the loop over the pins: before the first turn, a
+--                                                        turn, after the last
+--     BoxesToLoad, boxes-begin, boxes-turn, boxes-end    the loop over the boxes
 use Prim.Native.Nat.{ℕ, suc, _+_, _-_, _*_, _≤_, _<_}
 use mathlib.Core.Path.{_≡_, refl, sym, _∙_}
 use mathlib.Core.List.{List, [], _∷_, _++_}
@@ -111,22 +114,22 @@ module _ (bytes : List ℕ) (at : ℕ) where
 pub sets-append : (l : List ℕ) (i : ℕ) (xs ys : List ℕ) → sets l i (xs ++ ys) ≡ sets (sets l i xs) (i + length xs) ys
 sets-append l i [] ys = rw add-zero
 sets-append l i (x ∷ xs) ys =
-    let place : suc i + length xs ≡ i + suc (length xs) = omega arith in
-    rw place at (sets-append (set l i x) (suc i) xs ys)
+    let position : suc i + length xs ≡ i + suc (length xs) = omega arith in
+    rw position at (sets-append (set l i x) (suc i) xs ys)
 
 -- ---- the pins
 
 -- before a turn: so many pins are stored, and storing the rest gives all
 pub record PinsToLoad (bits : List ℕ) (g : Grid) (count from : ℕ) (first pins : List ℕ) (at pin : ℕ) : Type 0 where
   pub within : pin ≤ count
-  pub place : at ≡ from + 19 * pin
+  pub position : at ≡ from + 19 * pin
   pub stored : sets first 0 (pinNumbers bits g count from) ≡ sets pins pin (pinNumbers bits g (count - pin) at)
 
 -- before the first turn no pin is stored
 pub pins-begin : (bits : List ℕ) (g : Grid) (count from : ℕ) (pins : List ℕ) → PinsToLoad bits g count from pins pins from 0
 pins-begin bits g count from pins =
     let all : count - 0 ≡ count = omega arith in
-    record { within = omega arith; place = omega arith; stored = rw all }
+    record { within = omega arith; position = omega arith; stored = rw all }
 
 -- a turn stores the number of the vertex that stands there
 pub pins-turn : {bits : List ℕ} {g : Grid} {count from : ℕ} {first pins : List ℕ} {at pin : ℕ} → pin < count
@@ -136,7 +139,7 @@ pub pins-turn : {bits : List ℕ} {g : Grid} {count from : ℕ} {first pins : Li
 unfolding pinNumbers
 pins-turn {count = count} {pin = pin} more h told numbered =
     let rest : count - pin ≡ suc (count - suc pin) = omega arith in
-    record { within = omega arith; place = omega arith; stored = rw (numbered, told, add-one) (rw rest at (h .stored)) }
+    record { within = omega arith; position = omega arith; stored = rw (numbered, told, add-one) (rw rest at (h .stored)) }
 
 -- after the last turn all pins are stored
 pub pins-end : {bits : List ℕ} {g : Grid} {count from : ℕ} {first pins : List ℕ} {at pin : ℕ} → count ≤ pin
@@ -149,12 +152,12 @@ pins-end {count = count} {pin = pin} done h = let none : count - pin ≡ 0 = ome
 -- before a turn: storing the boxes that are left gives all
 pub record BoxesToLoad (bits : List ℕ) (count from : ℕ) (start boxes : List ℕ) (at first left : ℕ) : Type 0 where
   pub room : first + 6 * left ≡ 6 * count
-  pub place : at + 38 * left ≡ from + 38 * count
+  pub position : at + 38 * left ≡ from + 38 * count
   pub stored : sets start 0 (boxesNumbers bits count from) ≡ sets boxes first (boxesNumbers bits left at)
 
 -- before the first turn no box is stored
 pub boxes-begin : (bits : List ℕ) (count from : ℕ) (boxes : List ℕ) → BoxesToLoad bits count from boxes boxes from 0 count
-boxes-begin bits count from boxes = record { room = omega arith; place = refl; stored = refl }
+boxes-begin bits count from boxes = record { room = omega arith; position = refl; stored = refl }
 
 -- a turn stores the six numbers of the box that stands there
 pub boxes-turn : {bits : List ℕ} {count from : ℕ} {start boxes : List ℕ} {at first left : ℕ} → 0 < left
@@ -166,7 +169,7 @@ boxes-turn {bits} {boxes = boxes} {at} {first} {left} more h told put =
     let rest : left ≡ suc (left - 1) = omega arith in
     record {
       room = omega arith;
-      place = omega arith;
+      position = omega arith;
       stored = rw (put, told) (rw rest at (h .stored) ∙ sets-append boxes first (boxNumbers (boxAt bits at)) (boxesNumbers bits (left - 1) (at + 38)));
     }
 

@@ -1,9 +1,9 @@
 -- What is loaded of a net is the net of the job that was read.
---     pins-loaded, boxes-loaded     the numbers of pins and of boxes whose bits stand there
---     all-below, all-one, width-more     numbers below a higher bound; one of many; one net more
---     NetTold                       a net, loaded
---     net-loaded, net-told          a good net whose bits stand at a bit; each net of a job that was read
---     first-net                     the first net begins where the obstacles end
+--     pins-loaded, boxes-loaded         the numbers of pins and of boxes whose bits stand there
+--     all-below, all-one, width-more    numbers below a higher bound; one of many; one net more
+--     NetTold                           a net, loaded
+--     net-loaded, net-told              a good net whose bits stand at a bit; each net of a job that was read
+--     first-net                         the first net begins where the obstacles end
 use Prim.Native.Nat.{ℕ, suc, _+_, _*_, _≤_, _<_}
 use native.Mathlib.Nat.{add-zero}
 use native.Mathlib.Omega.{arith}

@@ -1,9 +1,9 @@
 -- What a caller of `read_job` knows of its answer.
 --     ReadGood, read-at     the bytes hold a good job, and these are its head and its layer lines
 --     read-refused          the bytes are refused
---     zeros-bare            marks of zeros are bare
+--     zeros-bare            occupants of zeros are bare
 --     least-below           no M is above 15
-use Prim.Native.Nat.{ℕ, _≤_, max}
+use Prim.Native.Nat.{ℕ, _≤_}
 use mathlib.Core.Path.{_≡_, refl, ap, subst⁻¹, _∙_}
 use mathlib.Core.List.{List, [], _∷_}
 use native.Mathlib.Omega.{arith}
@@ -14,8 +14,8 @@ use Rattle.job.specs.Good.{GoodLines, GoodJob}
 use Rattle.job.specs.Structs.{Small, headStruct}
 use Rattle.job.specs.Structs.{layersOf}
 use Rattle.reader.specs.Structs.{largestIn, jobRead}
-use Rattle.marks.specs.Marks.{Bare}
-use Rattle.marks.specs.declared.reached.Reached.{Reached}
+use Rattle.occupants.specs.Occupants.{Bare}
+use Rattle.occupants.specs.declared.reached.Reached.{Reached}
 use Rattle.reader.specs.declared.whole.JobRead.{JobRead}
 use Rattle.job.proofs.TwoWay.{rules-hold}
 use Rattle.reader.proofs.Lines.{largest-lines, eight-length}
@@ -67,7 +67,7 @@ module _ (bytes : List ℕ) (x : JobRead) (e : x ≡ jobRead (readJob bytes)) wh
       by (refused m q) k = let same = ap (λ (y : JobRead). y .reached) (e ∙ ap jobRead k) in cc
       by (good j) k = let z : _≡_ {A = ℕ} 0 1 = cc (ap (λ (y : JobRead). y .reached) (e ∙ ap jobRead k)) in absurd (omega arith)
 
--- marks of zeros are bare
+-- occupants of zeros are bare
 pub zeros-bare : Bare (replicate 16384 0)
 unfolding Bare
 zeros-bare = refl

@@ -1,5 +1,5 @@
--- The form in which a net's pins and boxes are handed to routing: vertex numbers, and six numbers for each box. The laws that tie it to
--- the nets of the job that was read are in proofs/Loaded.antt.
+-- The form in which a net's pins and boxes are handed to routing: vertex numbers, and six numbers for each
+-- box. The laws that tie it to the nets of the job that was read are in proofs/Loaded.antt.
 use Prim.Native.Nat.{ℕ, zero, suc, _+_, _*_, _≤_}
 use mathlib.Core.List.{List, [], _∷_, _++_}
 use lib.ListN.{length}

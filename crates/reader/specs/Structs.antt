@@ -10,7 +10,7 @@ use Rattle.reader.specs.declared.head.HeadRead.{HeadRead}
 use Rattle.reader.specs.declared.layers.LayerRead.{LayerRead}
 use Rattle.job.specs.declared.layers.Layers.{Layers}
 use Rattle.reader.specs.declared.layers.LayersRead.{LayersRead}
-use Rattle.marks.specs.declared.reached.Reached.{Reached}
+use Rattle.occupants.specs.declared.reached.Reached.{Reached}
 use Rattle.reader.specs.declared.whole.JobRead.{JobRead}
 use Rattle.job.specs.Structs.{headStruct, layerStruct, layersOf}
 

@@ -1,6 +1,5 @@
 // Reading the layer lines into an array for each field.
 ghost use mathlib.Core.Path.{_≡_};
-ghost use mathlib.Core.Bool.{Bool};
 ghost use Prim.Native.Nat.{_<_, _≤_, _^_, _+_, _*_};
 ghost use mathlib.Core.List.{[]};
 ghost use lib.ListN.{length};
@@ -12,7 +11,7 @@ use job::groups::Layer;
 use job::groups::LayerGroup;
 use job::groups::layer_group;
 use job::layers::Layers;
-use marks::reached::Reached;
+use occupants::reached::Reached;
 
 pub enum LayerRead {
     Good(Layer),

@@ -1,4 +1,5 @@
-// The net at hand: its pins and boxes in the small arrays that routing works on. The job was read before, so nothing is refused here.
+// The net at hand: its pins and boxes in the small arrays that routing works on. The job was read before, so
+// nothing is refused here.
 ghost use mathlib.Core.Path.{_≡_};
 ghost use Prim.Native.Nat.{_+_, _*_, _<_, _≤_};
 ghost use lib.ListN.{length};

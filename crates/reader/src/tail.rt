@@ -4,9 +4,9 @@ ghost use Prim.Native.Nat.{_<_, _≤_, _^_};
 ghost use lib.ListN.{length};
 ghost use Rattle.bits.specs.Bits.{bitsOf};
 ghost use Rattle.job.specs.Reading.{readTail};
-ghost use Rattle.marks.specs.Structs.{manyReached};
+ghost use Rattle.occupants.specs.Structs.{manyReached};
 use bits::Cursor;
-use marks::reached::Reached;
+use occupants::reached::Reached;
 
 // Fewer than eight bits are left, and they are zero.
 pub fn read_tail(s: &[u8], at: usize) -> Reached

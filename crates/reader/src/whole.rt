@@ -1,6 +1,5 @@
 // Reading a whole job.
 ghost use mathlib.Core.Path.{_≡_};
-ghost use mathlib.Core.List.{List};
 ghost use Prim.Native.Nat.{_<_, _≤_, _^_};
 ghost use lib.ListN.{length};
 ghost use Rattle.bits.specs.Bits.{bitsOf};
@@ -9,7 +8,7 @@ ghost use Rattle.job.specs.Good.{allPins};
 ghost use Rattle.job.specs.Reading.{refused, good, readAfterHead, readJob};
 ghost use Rattle.job.specs.Structs.{Sized, headOf};
 ghost use Rattle.reader.specs.Structs.{jobRead};
-ghost use Rattle.marks.specs.Marks.{Bare, Marks, answerOf, marksOf, groupsFrom};
+ghost use Rattle.occupants.specs.Occupants.{Bare, Occupants, answerOf, occupantsOf, groupsFrom};
 use crate::head::HeadRead;
 use crate::head::read_head;
 use crate::layers::no_layers;
@@ -18,9 +17,9 @@ use crate::tail::read_tail;
 use job::grid::Grid;
 use job::groups::Head;
 use job::layers::Layers;
-use marks::nets::read_nets;
-use marks::obstacles::read_obstacles;
-use marks::reached::Reached;
+use occupants::nets::read_nets;
+use occupants::obstacles::read_obstacles;
+use occupants::reached::Reached;
 
 // How far reading came, with the head and the layer lines, which are 0 after a refusal.
 pub struct JobRead {
@@ -53,17 +52,17 @@ pub fn refused_job(refusal: usize, place: usize) -> JobRead
 }
 
 // Obstacles, nets and tail.
-pub fn read_groups(s: &[u8], head: Head, marks: &mut [u8; 16384]) -> Reached
+pub fn read_groups(s: &[u8], head: Head, occupants: &mut [u8; 16384]) -> Reached
     requires { ⌜ (length (now s) ≤ 262144) × (Sized (head .grid)) × (head .nets < 2 ^ 8) × (head .obstacles < 2 ^ 16) ⌝ }
-    ensures answer { λ r. ⌜ r ≡ answerOf (groupsFrom (bitsOf (now (s .entry))) (headOf head) (now (marks .entry))) ⌝ }
-    ensures marks { λ _. ⌜ now (marks .exit) ≡ marksOf (groupsFrom (bitsOf (now (s .entry))) (headOf head) (now (marks .entry))) ⌝ }
+    ensures answer { λ r. ⌜ r ≡ answerOf (groupsFrom (bitsOf (now (s .entry))) (headOf head) (now (occupants .entry))) ⌝ }
+    ensures occupants { λ _. ⌜ now (occupants .exit) ≡ occupantsOf (groupsFrom (bitsOf (now (s .entry))) (headOf head) (now (occupants .entry))) ⌝ }
 {
     let grid = head.grid;
-    let obstacles = read_obstacles(s, grid, head.obstacles, 80 + 40 * grid.layers, marks);
+    let obstacles = read_obstacles(s, grid, head.obstacles, 80 + 40 * grid.layers, occupants);
     let Reached::At(nets_at) = obstacles else {
         return obstacles;
     };
-    let nets = read_nets(s, grid, head.nets, nets_at, marks);
+    let nets = read_nets(s, grid, head.nets, nets_at, occupants);
     let Reached::At(end) = nets else {
         return nets;
     };
@@ -71,18 +70,18 @@ pub fn read_groups(s: &[u8], head: Head, marks: &mut [u8; 16384]) -> Reached
 }
 
 // Layer lines, obstacles, nets and tail.
-pub fn read_after_head(s: &[u8], head: Head, marks: &mut [u8; 16384]) -> JobRead
+pub fn read_after_head(s: &[u8], head: Head, occupants: &mut [u8; 16384]) -> JobRead
     requires { ⌜ (length (now s) ≤ 262144) × (Sized (head .grid)) × (head .nets < 2 ^ 8) × (head .obstacles < 2 ^ 16) ⌝ }
-    requires { ⌜ Bare (now marks) ⌝ }
+    requires { ⌜ Bare (now occupants) ⌝ }
     ensures read { λ r. ⌜ r ≡ jobRead (readAfterHead (bitsOf (now (s .entry))) (headOf head)) ⌝ }
-    ensures marks { λ _. ⌜ ((j : Job) → readAfterHead (bitsOf (now (s .entry))) (headOf head) ≡ good j → Marks (j .grid) (j .obstacles) (allPins (j .nets)) (now (marks .exit))) ⌝ }
+    ensures occupants { λ _. ⌜ ((j : Job) → readAfterHead (bitsOf (now (s .entry))) (headOf head) ≡ good j → Occupants (j .grid) (j .obstacles) (allPins (j .nets)) (now (occupants .exit))) ⌝ }
 {
     let lines = read_layers(s, head.grid.layers);
     let layers_read = lines.reached;
     let layers = lines.layers;
     match layers_read {
         Reached::At(_) => {
-            let groups = read_groups(s, head, marks);
+            let groups = read_groups(s, head, occupants);
             match groups {
                 Reached::At(end) => JobRead {
                     reached: Reached::At(end),
@@ -96,19 +95,19 @@ pub fn read_after_head(s: &[u8], head: Head, marks: &mut [u8; 16384]) -> JobRead
     }
 }
 
-// The job that the bytes hold, or the first rule that they break. The marks are lent bare, and after a good job they tell
-// obstacles and pins.
-pub fn read_job(s: &[u8], marks: &mut [u8; 16384]) -> JobRead
-    requires { ⌜ Bare (now marks) ⌝ }
+// The job that the bytes hold, or the first rule that they break. The occupants are lent bare, and after a
+// good job they tell obstacles and pins.
+pub fn read_job(s: &[u8], occupants: &mut [u8; 16384]) -> JobRead
+    requires { ⌜ Bare (now occupants) ⌝ }
     ensures read { λ r. ⌜ r ≡ jobRead (readJob (now (s .entry))) ⌝ }
-    ensures marks { λ _. ⌜ ((j : Job) → readJob (now (s .entry)) ≡ good j → Marks (j .grid) (j .obstacles) (allPins (j .nets)) (now (marks .exit))) ⌝ }
+    ensures occupants { λ _. ⌜ ((j : Job) → readJob (now (s .entry)) ≡ good j → Occupants (j .grid) (j .obstacles) (allPins (j .nets)) (now (occupants .exit))) ⌝ }
 {
     if 262144 < s.len() {
         return refused_job(1, 0);
     }
     let read = read_head(s);
     match read {
-        HeadRead::Good(head) => read_after_head(s, head, marks),
+        HeadRead::Good(head) => read_after_head(s, head, occupants),
         HeadRead::Refused(refusal, place) => refused_job(refusal, place),
     }
 }

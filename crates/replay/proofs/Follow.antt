@@ -1,4 +1,5 @@
--- Two readings of the same bits, one by the definition and one with arrays: both refuse alike, or both are good and meet.
+-- Two readings of the same bits, one by the definition and one with arrays: both refuse alike, or both are
+-- good and meet.
 --     Follow                    what they have in common
 --     follow-on                 one reading after another
 --     follow-read, follow-then  after what both read without touching the arrays

@@ -25,7 +25,7 @@ use Rattle.rules.proofs.Walks.{route-walk}
 use Rattle.plan.specs.Reading.{group, Moved, JoinRead, readMoves, readJoin}
 use Rattle.plan.proofs.Moves.{moves-good}
 use Rattle.tree.specs.Spots.{Spots}
-use Rattle.tree.proofs.Marked.{spot-tree}
+use Rattle.tree.proofs.Spots.{spot-tree}
 use Rattle.walker.specs.Entering.{Arrays, goneAt}
 use Rattle.walker.specs.Standing.{Stood}
 use Rattle.walker.proofs.Sums.{nothing-plus}

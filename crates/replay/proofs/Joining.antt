@@ -18,7 +18,7 @@ use Rattle.job.proofs.Binds.{steps}
 use Rattle.job.proofs.Grids.{number-below}
 use Rattle.rules.specs.Views.{View}
 use Rattle.rules.specs.Prices.{Tech}
-use Rattle.marks.specs.declared.reached.Reached.{Reached}
+use Rattle.occupants.specs.declared.reached.Reached.{Reached}
 use Rattle.walker.specs.Entering.{Arrays, Gone, goneAt}
 use Rattle.walker.specs.Structs.{IsWalk}
 use Rattle.walker.specs.declared.Walk.{Walk}
@@ -150,14 +150,14 @@ module _ (bits : List ℕ) (t : Tech) (view : View) (net at : ℕ) (arrays : Arr
       → ((x : Came Gone) → IsMoves moves x → IsJoin answer (costFrom bits (at + 39 + 2 * m) x)) → JoinFits (at + 39 + 2 * m + 40) answer
       → Reads (at + 2 ^ 22) answer spots codes
   unfolding JoinFits
-  started-join {v} {m} moves answer told few walked marked laid ended fits =
+  started-join {v} {m} moves answer told few walked put laid ended fits =
       let x = movesFrom bits t view net m (at + 39) (goneAt v) arrays in
       let left = sym (cost-arrays bits (at + 39 + 2 * m) x) in
       rw (join-started told) (
         ended x walked,
         (
           fits-more answer fits (omega arith),
-          (marked ∙ ap (λ (a : Arrays). a .spots) left, laid ∙ ap (λ (a : Arrays). a .codes) left),
+          (put ∙ ap (λ (a : Arrays). a .spots) left, laid ∙ ap (λ (a : Arrays). a .codes) left),
         ),
       )
     where

@@ -26,7 +26,7 @@ use Rattle.rules.proofs.Members.{member-append, member-both, member-here}
 use Rattle.plan.specs.Reading.{group, agree, Moved, withMove, judged, readMoves}
 use Rattle.plan.proofs.Moves.{judged-good}
 use Rattle.tree.specs.Spots.{Spots}
-use Rattle.tree.proofs.Marked.{spot-goal}
+use Rattle.tree.proofs.Spots.{spot-goal}
 use Rattle.walker.specs.Entering.{Arrays, enterBy, Gone, thenMade, goneOn}
 use Rattle.walker.specs.Standing.{Stood}
 use Rattle.walker.proofs.Sums.{plusSum, then-sum, plus-nothing}

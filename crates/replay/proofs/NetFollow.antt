@@ -18,10 +18,11 @@ use Rattle.rules.specs.Joins.{join}
 use Rattle.rules.specs.Routings.{Totals, withJoin}
 use Rattle.plan.specs.Reading.{group, Progress, before, readJoin, byFlag, unlessJoined, readNet}
 use Rattle.plan.proofs.JoinRead.{join-good}
-use Rattle.plan.proofs.NetsRead.{legal-apart, unless-some}
+use Rattle.plan.proofs.Entries.{legal-apart}
+use Rattle.plan.proofs.NetRead.{unless-some}
 use Rattle.metal.specs.Codes.{Codes}
 use Rattle.tree.specs.Spots.{someUnjoined}
-use Rattle.tree.proofs.Marked.{some-none, some-one}
+use Rattle.tree.proofs.Spots.{some-none, some-one}
 use Rattle.replay.specs.Following as Code
 use Rattle.walker.specs.Entering.{Arrays}
 use Rattle.walker.specs.Standing.{AtNet}

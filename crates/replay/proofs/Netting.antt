@@ -21,7 +21,7 @@ use Rattle.rules.specs.declared.price.Tech.{Tech as TechStruct}
 use Rattle.rules.specs.declared.totals.Totals.{Totals as TotalsStruct}
 use Rattle.plan.specs.Reading.{Progress, readNet, readNets}
 use Rattle.plan.specs.Legal.{NetEntries, allJoined, gaveUp, joins}
-use Rattle.plan.proofs.NetsRead.{net-good}
+use Rattle.plan.proofs.NetRead.{net-good}
 use Rattle.plan.proofs.Unjoined.{begun-length}
 use Rattle.metal.specs.Codes.{Beyond}
 use Rattle.metal.proofs.Slices.{beyond-trans}
@@ -77,23 +77,23 @@ unfolding _>>=_ withEntries
 none-before (refused n p) = refl
 none-before (good all) = refl
 
-module _ (bytes : List ℕ) (tech : TechStruct) (marks found B : List ℕ) (below : AllBelow 2 B) where
+module _ (bytes : List ℕ) (tech : TechStruct) (occupants found B : List ℕ) (below : AllBelow 2 B) where
   -- so many nets are left: the rest from here gives the whole
-  pub record Netting (codes pins boxes : List ℕ) (place at : ℕ) (totals : TotalsStruct) (net left : ℕ) : Type 0 where
+  pub record Netting (codes pins boxes : List ℕ) (position at : ℕ) (totals : TotalsStruct) (net left : ℕ) : Type 0 where
     pub count : ℕ
     pub start : ℕ
-    pub held : NetsHeld bytes tech marks found count start
+    pub held : NetsHeld bytes tech occupants found count start
     pub before : List Net
     pub after : List Net
     pub metal : List (List ℕ)
-    pub nets : Nets bytes tech marks found held before after metal codes pins boxes place net left
+    pub nets : Nets bytes tech occupants found held before after metal codes pins boxes position net left
     pub entries : List Entry
     pub same : readNets B (held .job) 0 (held .job .nets) (metalAtFirst (held .job)) noTotals 0
         ≡ _>>=_ (readNets B (held .job) (length before) after metal (totalsOf totals) at) (λ p. good (withEntries entries p))
     pub bounded : Bounded (16 * net + 16) totals at
 
   -- before the first net
-  pub netting-begun : {count start : ℕ} {pins boxes : List ℕ} → NetsHeld bytes tech marks found count start → length pins ≡ 16 → length boxes ≡ 90
+  pub netting-begun : {count start : ℕ} {pins boxes : List ℕ} → NetsHeld bytes tech occupants found count start → length pins ≡ 16 → length boxes ≡ 90
       → {totals : TotalsStruct} → totals ≡ record { cost = 0; added = 0; penalties = 0; joined = 0 } → Netting found pins boxes start 0 totals 0 count
   unfolding noTotals
   netting-begun {count} {start} held sixteen ninety none =
@@ -104,13 +104,13 @@ module _ (bytes : List ℕ) (tech : TechStruct) (marks found B : List ℕ) (belo
         before = [];
         after = held .job .nets;
         metal = metalAtFirst (held .job);
-        nets = nets-begun bytes tech marks found held sixteen ninety;
+        nets = nets-begun bytes tech occupants found held sixteen ninety;
         entries = [];
         same = none-before _;
         bounded = record { cost = omega arith; added = omega arith; penalties = omega arith; joined = omega arith; reach = omega arith };
       })
 
-  module _ {codes pins boxes : List ℕ} {place at : ℕ} {totals : TotalsStruct} {net left : ℕ} (so-far : Netting codes pins boxes place at totals net left) where
+  module _ {codes pins boxes : List ℕ} {position at : ℕ} {totals : TotalsStruct} {net left : ℕ} (so-far : Netting codes pins boxes position at totals net left) where
     abbrev job : Job
     job = so-far .held .job
 
@@ -119,23 +119,23 @@ module _ (bytes : List ℕ) (tech : TechStruct) (marks found B : List ℕ) (belo
 
     -- the code's grid is the job's
     same-grid : gridOf (tech .grid) ≡ job .grid
-    same-grid = grid bytes tech marks found (so-far .held)
+    same-grid = grid bytes tech occupants found (so-far .held)
 
-    module _ (some : 0 < left) {loaded : NetLoaded} {pins′ boxes′ : List ℕ} (isLoaded : loaded ≡ netLoaded (bitsOf bytes) place)
-        (isPins : pins′ ≡ pinsLoaded (bitsOf bytes) (gridOf (tech .grid)) place pins) (isBoxes : boxes′ ≡ boxesLoaded (bitsOf bytes) place boxes)
+    module _ (some : 0 < left) {loaded : NetLoaded} {pins′ boxes′ : List ℕ} (isLoaded : loaded ≡ netLoaded (bitsOf bytes) position)
+        (isPins : pins′ ≡ pinsLoaded (bitsOf bytes) (gridOf (tech .grid)) position pins) (isBoxes : boxes′ ≡ boxesLoaded (bitsOf bytes) position boxes)
         (view : View) (sees : (j : Job) (i : ℕ) (metal : List (List ℕ)) → gridOf (tech .grid) ≡ j .grid → net + 1 ≡ suc i
-        → NetAtHand j i metal marks codes pins′ boxes′ (loaded .pins) (loaded .boxes) → view ≡ viewOf j i metal) where
+        → NetAtHand j i metal occupants codes pins′ boxes′ (loaded .pins) (loaded .boxes) → view ≡ viewOf j i metal) where
       -- the nets after the one at hand
       abbrev others : List Net
-      others = hand bytes tech marks found (so-far .held) (so-far .nets) some .1
+      others = hand bytes tech occupants found (so-far .held) (so-far .nets) some .1
 
       -- its pins, by number
       abbrev pins-own : List ℕ
-      pins-own = own bytes tech marks found (so-far .held) (so-far .nets) some
+      pins-own = own bytes tech occupants found (so-far .held) (so-far .nets) some
 
       -- what is known before its first record
-      at-first : AtNet job k view pins-own (begun pins-own (so-far .metal)) (first bytes tech marks found (so-far .held) (so-far .nets) some isLoaded isPins isBoxes)
-      at-first = at-net bytes tech marks found (so-far .held) (so-far .nets) some isLoaded isPins isBoxes view sees
+      at-first : AtNet job k view pins-own (begun pins-own (so-far .metal)) (first bytes tech occupants found (so-far .held) (so-far .nets) some isLoaded isPins isBoxes)
+      at-first = at-net bytes tech occupants found (so-far .held) (so-far .nets) some isLoaded isPins isBoxes view sees
 
       -- what reading its records comes to, by the definition and with arrays
       abbrev this : Read Progress
@@ -151,12 +151,12 @@ module _ (bytes : List ℕ) (tech : TechStruct) (marks found B : List ℕ) (belo
       follows =
           let number : net + 1 ≡ suc k = omega (arith, so-far .nets .number) in
           rw (
-            own-pins bytes tech marks found (so-far .held) (so-far .nets) some isLoaded isPins isBoxes,
+            own-pins bytes tech occupants found (so-far .held) (so-far .nets) some isLoaded isPins isBoxes,
             so-far .held .layers,
             number,
-            own-count bytes tech marks found (so-far .held) (so-far .nets) some isLoaded isPins isBoxes,
+            own-count bytes tech occupants found (so-far .held) (so-far .nets) some isLoaded isPins isBoxes,
           )
-          (net-follow B below (rules bytes tech marks found (so-far .held)) k view pins-own (own-below bytes tech marks found (so-far .held) (so-far .nets) some)
+          (net-follow B below (rules bytes tech occupants found (so-far .held)) k view pins-own (own-below bytes tech occupants found (so-far .held) (so-far .nets) some)
           (length pins-own) (begun pins-own (so-far .metal)) (totalsOf totals) at _ at-first)
 
       -- the whole is this net, and the rest
@@ -170,7 +170,7 @@ module _ (bytes : List ℕ) (tech : TechStruct) (marks found B : List ℕ) (belo
       unfolding readNets
       one-net =
           so-far .same ∙ ap (λ (ns : List Net). _>>=_ (readNets B job k ns (so-far .metal) (totalsOf totals) at) (λ p. good (withEntries (so-far .entries) p)))
-          (hand bytes tech marks found (so-far .held) (so-far .nets) some .2)
+          (hand bytes tech occupants found (so-far .held) (so-far .nets) some .2)
 
       -- past the grid the map is as found
       kept-on : Beyond (vertices (job .grid)) (arraysOf records .codes) found
@@ -203,17 +203,17 @@ module _ (bytes : List ℕ) (tech : TechStruct) (marks found B : List ℕ) (belo
         unfolding IsNets NetFits readNets _>>=_
         netting-on {more} {next} told fits =
             let (all, e, totals-same, next-same, coded) = rw told at answers in
-            let many = one-on bytes tech marks found (so-far .held) (so-far .nets) some isLoaded isPins isBoxes in
-            let metals = net-metals job k (net-good B below (rules bytes tech marks found (so-far .held)) k (length pins-own) (begun pins-own (so-far .metal)) (totalsOf totals) at all
+            let many = one-on bytes tech occupants found (so-far .held) (so-far .nets) some isLoaded isPins isBoxes in
+            let metals = net-metals job k (net-good B below (rules bytes tech occupants found (so-far .held)) k (length pins-own) (begun pins-own (so-far .metal)) (totalsOf totals) at all
             (at-first .apart) (begun-length pins-own (so-far .metal)) e .entries) in
             record {
               count = so-far .count;
               start = so-far .start;
               held = so-far .held;
-              before = so-far .before ++ (hand bytes tech marks found (so-far .held) (so-far .nets) some .0 ∷ []);
+              before = so-far .before ++ (hand bytes tech occupants found (so-far .held) (so-far .nets) some .0 ∷ []);
               after = others;
               metal = all .metal;
-              nets = nets-on bytes tech marks found (so-far .held) (so-far .nets) some isLoaded isPins isBoxes metals coded (rw left-codes kept-on);
+              nets = nets-on bytes tech occupants found (so-far .held) (so-far .nets) some isLoaded isPins isBoxes metals coded (rw left-codes kept-on);
               entries = so-far .entries ++ all .entries;
               same =
                   one-net ∙ ap after-this e ∙ regroup (so-far .entries) all (readNets B job (suc k) others (all .metal) (all .totals) (all .at))
@@ -241,7 +241,7 @@ module _ (bytes : List ℕ) (tech : TechStruct) (marks found B : List ℕ) (belo
     pub fits-all : NetFits 4112 (NetRead.Ended totals at)
     unfolding NetFits
     fits-all =
-        let few = nets-few bytes tech marks found (so-far .held) (so-far .nets) in
+        let few = nets-few bytes tech occupants found (so-far .held) (so-far .nets) in
         let b = so-far .bounded in
         record {
           cost = omega (arith, b .cost);

@@ -220,8 +220,8 @@ module _ (tech : TechStruct) (view : View) (B : List ℕ) (net : ℕ) (pins : Li
             → more ≡ record { cost = totals .cost + w .cost; added = totals .added + w .added; penalties = totals .penalties + w .penalties; joined = totals .joined }
             → Recording more-spots more-codes more next (left - 1)
         unfolding IsJoin JoinFits arraysOf andOn withJoin
-        recording-on fits below r {w} {next} {more-spots} {more-codes} {more} is small joining marked laid summed =
-            by (joinFrom B (techBy tech) view net (at + 1) here) refl (rw joining at is) marked laid
+        recording-on fits below r {w} {next} {more-spots} {more-codes} {more} is small joining put laid summed =
+            by (joinFrom B (techBy tech) view net (at + 1) here) refl (rw joining at is) put laid
           where
             kept : length (arraysOf (joinFrom B (techBy tech) view net (at + 1) here) .codes) ≡ length codes
             kept = join-kept B below view net (fits .good) (at + 1) here .size

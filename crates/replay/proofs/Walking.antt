@@ -126,8 +126,8 @@ module _ (tech : TechStruct) (view : View) (B : List ℕ) (net count from start 
           → after ≡ layAll net (extended (gridOf (tech .grid)) (walk .place .vertex) (m .extension) ++ (m .next .vertex ∷ [])) codes
           → onward ≡ walkOn walk m → Walking more after onward (at + 2) (left - 1)
       unfolding andRead
-      walking-on fits isLast {more} {after} {onward} marked laid walked =
-          let arrays = made-entered tech view (walk .place) (field B at 2) m is-step is-whole net spots codes marked laid in
+      walking-on fits isLast {more} {after} {onward} put laid walked =
+          let arrays = made-entered tech view (walk .place) (field B at 2) m is-step is-whole net spots codes put laid in
           let one : count - (left - 1) ≡ suc (count - left) = omega (arith, so-far .few, some) in
           record {
             gone = goneOn (so-far .gone) made;

@@ -83,12 +83,12 @@ plan-coded g bits (NetRead.Ended totals at) x codes r (all, e, total, next, code
 
 -- ---- from the job that was read to the map at the end
 
-module _ (bytes : List ℕ) (tech : TechStruct) (marks found : List ℕ) (count start : ℕ) (held : PlanHeld bytes tech marks found count start)
+module _ (bytes : List ℕ) (tech : TechStruct) (occupants found : List ℕ) (count start : ℕ) (held : PlanHeld bytes tech occupants found count start)
     {bare laid : List ℕ} (zeros : bare ≡ zeroed (vertices (gridOf (tech .grid))) found) (kept : Beyond (vertices (gridOf (tech .grid))) laid bare)
     (plan : List ℕ) (read : NetRead) (replayed : Replayed) {after map : List ℕ}
     (is : (j : Job) → readJob bytes ≡ good j → IsNets (gridOf (tech .grid)) read (readNets (bitsOf plan) j 0 (j .nets) (metalAtFirst j) noTotals 0) after)
     (still : Beyond (vertices (gridOf (tech .grid))) after laid) (ended : IsEnd (bitsOf plan) read replayed)
-    (finished : map ≡ finishedMap marks (vertices (gridOf (tech .grid))) replayed after) (j : Job) (jobIs : readJob bytes ≡ good j) where
+    (finished : map ≡ finishedMap occupants (vertices (gridOf (tech .grid))) replayed after) (j : Job) (jobIs : readJob bytes ≡ good j) where
   -- the answer is the plan's
   pub plan-answer : IsReplayed replayed (readPlan j plan)
   unfolding readPlan planFrom
@@ -100,19 +100,19 @@ module _ (bytes : List ℕ) (tech : TechStruct) (marks found : List ℕ) (count 
   plan-map = finished ∙ by replayed plan-answer
     where
       past : Beyond (vertices (gridOf (tech .grid))) after found
-      past = beyond-trans still (laid-kept bytes tech marks found count start held zeros kept)
+      past = beyond-trans still (laid-kept bytes tech occupants found count start held zeros kept)
 
       g : gridOf (tech .grid) ≡ j .grid
-      g = read-grid bytes tech marks found count start held j jobIs
+      g = read-grid bytes tech occupants found count start held j jobIs
 
-      by : (r : Replayed) → IsReplayed r (readPlan j plan) → finishedMap marks (vertices (gridOf (tech .grid))) r after ≡ replayedMap j (readPlan j plan) found
+      by : (r : Replayed) → IsReplayed r (readPlan j plan) → finishedMap occupants (vertices (gridOf (tech .grid))) r after ≡ replayedMap j (readPlan j plan) found
       by (Replayed.Refused n p) e =
           zeroed-kept past ∙ ap (λ (h : Grid). zeroed (vertices h) found) g ∙ sym (ap (λ (x : Read Routed). replayedMap j x found) e)
       by (Replayed.Good totals) (r, e, total) =
-          finished-map bytes tech marks found count start held (r .metal) after (plan-coded (gridOf (tech .grid)) (bitsOf plan) read _ after r (is j jobIs) e) past j jobIs
+          finished-map bytes tech occupants found count start held (r .metal) after (plan-coded (gridOf (tech .grid)) (bitsOf plan) read _ after r (is j jobIs) e) past j jobIs
           ∙ sym (ap (λ (x : Read Routed). replayedMap j x found) e)
 
 -- the map finished by a count of the vertices
-pub count-finished : (marks : List ℕ) (r : Replayed) (after : List ℕ) {n v : ℕ} {map : List ℕ} → n ≡ v → map ≡ finishedMap marks n r after
-    → map ≡ finishedMap marks v r after
-count-finished marks r after {map = map} e h = subst (λ (k : ℕ). map ≡ finishedMap marks k r after) e h
+pub count-finished : (occupants : List ℕ) (r : Replayed) (after : List ℕ) {n v : ℕ} {map : List ℕ} → n ≡ v → map ≡ finishedMap occupants n r after
+    → map ≡ finishedMap occupants v r after
+count-finished occupants r after {map = map} e h = subst (λ (k : ℕ). map ≡ finishedMap occupants k r after) e h

@@ -1,10 +1,10 @@
--- The code's way through a plan: reading it with what stands in arrays. The laws that tie it to `readPlan` are in proofs/; no promise to a
--- caller from outside speaks of it.
---     Came, andOn                   how far reading has come, or its refusal
---     judgedMove                    a move that is read
---     movesFrom                     the moves of a join
---     readStart, costFrom, joinFrom  a join
---     netFrom                       the records of a net
+-- The code's way through a plan: reading it with what stands in arrays. The laws that tie it to `readPlan`
+-- are in proofs/; no promise to a caller from outside speaks of it.
+--     Came, andOn                      how far reading has come, or its refusal
+--     judgedMove                       a move that is read
+--     movesFrom                        the moves of a join
+--     readStart, costFrom, joinFrom    a join
+--     netFrom                          the records of a net
 use Prim.Native.Nat.{ℕ, zero, suc, _+_, _*_}
 use mathlib.Core.List.{List}
 use mathlib.Core.Bool.{Bool, _&&_, cond}

@@ -17,7 +17,7 @@ use Rattle.rules.specs.Steps.{Made}
 use Rattle.rules.specs.Structs.{WholeMade, TechFits, techBy, placeOf, madeBy}
 use Rattle.rules.specs.declared.price.Tech.{Tech as TechStruct}
 use Rattle.rules.specs.declared.step.Place.{Place as PlaceStruct}
-use Rattle.marks.specs.declared.reached.Reached.{Reached}
+use Rattle.occupants.specs.declared.reached.Reached.{Reached}
 use Rattle.walker.specs.Structs.{IsWalk, WalkFits, totalsOf, Bounded}
 use Rattle.walker.specs.Entering.{Gone}
 use Rattle.replay.specs.Following.{Came, came, stopped, Start, Joined, Ended}
@@ -134,9 +134,9 @@ abbrev pub IsEnd : (bits : List ℕ) → NetRead → Replayed → Type 0
 IsEnd bits read r = (g : Grid) (x : Read Progress) (codes : List ℕ) → IsNets g read x codes → IsReplayed r (planFrom bits x)
 
 -- the map at the end
-unfoldable pub finishedMap : (marks : List ℕ) → (count : ℕ) → Replayed → (map : List ℕ) → List ℕ
-finishedMap marks count (Replayed.Refused n p) map = zeroed count map
-finishedMap marks count (Replayed.Good totals) map = withObstacles marks count map
+unfoldable pub finishedMap : (occupants : List ℕ) → (count : ℕ) → Replayed → (map : List ℕ) → List ℕ
+finishedMap occupants count (Replayed.Refused n p) map = zeroed count map
+finishedMap occupants count (Replayed.Good totals) map = withObstacles occupants count map
 
 -- "needed parts of map and work zero"; or the map of the metal. What lies past the need is as found
 unfoldable pub replayedMap : Job → Read Routed → (map : List ℕ) → List ℕ

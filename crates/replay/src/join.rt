@@ -15,7 +15,7 @@ use crate::moves::read_moves;
 use crate::start::StartRead;
 use crate::start::read_cost;
 use crate::start::read_start;
-use marks::reached::Reached;
+use occupants::reached::Reached;
 use rules::price::Tech;
 use walker::Walk;
 

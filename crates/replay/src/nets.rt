@@ -70,13 +70,13 @@ pub fn read_net(
 pub fn read_nets(
     s: &[u8],
     tech: Tech,
-    marks: &[u8; 16384],
+    occupants: &[u8; 16384],
     map: &mut [u16],
     plan: &[u8],
     nets: usize,
     from: usize,
 ) -> NetRead
-    requires { ⌜ NetsHeld (now s) tech (now marks) (now map) nets from ⌝ }
+    requires { ⌜ NetsHeld (now s) tech (now occupants) (now map) nets from ⌝ }
     ensures answer { λ r. ⌜ ((j : Job) → readJob (now (s .entry)) ≡ good j
         → IsNets (gridOf (tech .grid)) r (readNets (bitsOf (now (plan .entry))) j 0 (j .nets) (metalAtFirst j) noTotals 0) (now (map .exit))) ⌝ }
     ensures fits { λ r. ⌜ NetFits 4112 r ⌝ }
@@ -85,7 +85,7 @@ pub fn read_nets(
     let mut seen = [0u8; 16384];
     let mut pins: [usize; 16] = [0; 16];
     let mut boxes: [usize; 90] = [0; 90];
-    let mut place = from;
+    let mut position = from;
     let mut at: usize = 0;
     let mut totals = no_totals();
     let mut net: u16 = 0;
@@ -93,11 +93,11 @@ pub fn read_nets(
     let mut prices: [usize; 48] = [0; 48];
     fill_prices(&mut prices, tech);
     while 0 < left {
-        let loaded = load_net(s, tech.grid, place, &mut pins, &mut boxes);
+        let loaded = load_net(s, tech.grid, position, &mut pins, &mut boxes);
         net += 1;
         see_net(
             &mut seen,
-            marks,
+            occupants,
             map,
             tech.grid,
             &pins,
@@ -120,7 +120,7 @@ pub fn read_nets(
                 at = next;
             }
         }
-        place = loaded.next;
+        position = loaded.next;
         left -= 1;
     }
     NetRead::Ended(totals, at)

@@ -9,7 +9,7 @@ use bits::Cursor;
 use job::grid::Grid;
 use job::groups::VertexGroup;
 use job::groups::vertex_group;
-use marks::reached::Reached;
+use occupants::reached::Reached;
 use tree::ON_TREE;
 
 // The start vertex and the number of moves.

@@ -7,7 +7,8 @@ ghost use lib.Dec.{ltb, eqb};
 ghost use Rattle.bits.specs.Bits.{bitsOf, number};
 use bits::Cursor;
 
-// Fewer than eight bits are left, and they are zero. The slice may be of any length, so its bits are counted only once they are few.
+// Fewer than eight bits are left, and they are zero. The slice may be of any length, so its bits are counted
+// only once they are few.
 pub fn zero_tail(plan: &[u8], at: usize) -> bool
     requires { ⌜ at < 2 ^ 40 ⌝ }
     ensures { λ r. ⌜ r ≡ (ltb (length (bitsOf (now (plan .entry))) - at) 8 && eqb (number (drop at (bitsOf (now (plan .entry))))) 0) ⌝ }

@@ -40,12 +40,12 @@ pub fn end_plan(plan: &[u8], read: NetRead) -> Replayed
 }
 
 // Obstacles are put into the map of a good plan; after a refusal it is zero.
-pub fn finish_map(map: &mut [u16], marks: &[u8; 16384], count: usize, replayed: Replayed)
+pub fn finish_map(map: &mut [u16], occupants: &[u8; 16384], count: usize, replayed: Replayed)
     requires { ⌜ (count ≤ 16384) × (count ≤ length (now map)) ⌝ }
-    ensures { λ _. ⌜ now (map .exit) ≡ finishedMap (now (marks .entry)) count replayed (now (map .entry)) ⌝ }
+    ensures { λ _. ⌜ now (map .exit) ≡ finishedMap (now (occupants .entry)) count replayed (now (map .entry)) ⌝ }
 {
     match replayed {
-        Replayed::Good(_totals) => put_obstacles(map, marks, count),
+        Replayed::Good(_totals) => put_obstacles(map, occupants, count),
         Replayed::Refused(_refusal, _place) => zero_codes(map, count),
     }
 }
@@ -54,21 +54,21 @@ pub fn finish_map(map: &mut [u16], marks: &[u8; 16384], count: usize, replayed: 
 pub fn replay_plan(
     s: &[u8],
     tech: Tech,
-    marks: &[u8; 16384],
+    occupants: &[u8; 16384],
     map: &mut [u16],
     plan: &[u8],
     nets: usize,
     from: usize,
 ) -> Replayed
-    requires { ⌜ PlanHeld (now s) tech (now marks) (now map) nets from ⌝ }
+    requires { ⌜ PlanHeld (now s) tech (now occupants) (now map) nets from ⌝ }
     ensures answer { λ r. ⌜ ((j : Job) → readJob (now (s .entry)) ≡ good j → IsReplayed r (readPlan j (now (plan .entry)))) ⌝ }
     ensures map { λ _. ⌜ ((j : Job) → readJob (now (s .entry)) ≡ good j → now (map .exit) ≡ replayedMap j (readPlan j (now (plan .entry))) (now (map .entry))) ⌝ }
 {
     let count = tech.grid.vertices();
     zero_codes(map, count);
     lay_all_pins(s, tech.grid, nets, from, map);
-    let read = read_nets(s, tech, marks, map, plan, nets, from);
+    let read = read_nets(s, tech, occupants, map, plan, nets, from);
     let replayed = end_plan(plan, read);
-    finish_map(map, marks, count, replayed);
+    finish_map(map, occupants, count, replayed);
     replayed
 }

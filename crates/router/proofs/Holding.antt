@@ -28,7 +28,7 @@ use Rattle.reader.specs.Structs.{largestIn}
 use Rattle.reader.specs.declared.whole.JobRead.{JobRead}
 use Rattle.reader.proofs.Lines.{largest-lines, eight-length}
 use Rattle.reader.proofs.Outcome.{ReadGood, least-below}
-use Rattle.marks.specs.Marks.{Marks}
+use Rattle.occupants.specs.Occupants.{Occupants}
 use Rattle.rules.specs.Prices.{Tech, techOf}
 use Rattle.rules.specs.Structs.{lineAt, linesFrom, techBy}
 use Rattle.rules.proofs.Techs.{good-tech}
@@ -129,14 +129,14 @@ module _ (head : HeadStruct) (layers : Layers) (holds : HeadHolds head layers) w
       lines = ap (linesFrom (layersOf (holds .job .lines)) 0) (sym (holds .rules .lines)) ∙ lines-from [] (holds .job .lines)
 
   -- what is held is the job's
-  held-is : (bytes marks : List ℕ) → readJob bytes ≡ good (holds .job)
-      → Marks (holds .job .grid) (holds .job .obstacles) (allPins (holds .job .nets)) marks → JobHeld bytes marks (heldOf head layers)
+  held-is : (bytes occupants : List ℕ) → readJob bytes ≡ good (holds .job)
+      → Occupants (holds .job .grid) (holds .job .obstacles) (allPins (holds .job .nets)) occupants → JobHeld bytes occupants (heldOf head layers)
   unfolding heldOf workNeed netsAt obstaclesAt techOf
-  held-is bytes marks read marked =
+  held-is bytes occupants read occupied =
       record {
         job = holds .job;
         read = read;
-        marked = marked;
+        occupied = occupied;
         layers = tech-is;
         fits = record {
           sized = holds-sized;
@@ -150,11 +150,11 @@ module _ (head : HeadStruct) (layers : Layers) (holds : HeadHolds head layers) w
       }
 
 -- and so for a job that was read
-pub job-held : {bytes marks : List ℕ} {x : JobRead} {held : Held} (read : ReadGood bytes x)
-    → ((j : Job) → readJob bytes ≡ good j → Marks (j .grid) (j .obstacles) (allPins (j .nets)) marks)
-    → held ≡ heldOf (x .head) (x .layers) → JobHeld bytes marks held
-job-held {bytes} {marks} {x} read marked is =
-    rw is (held-is (x .head) (x .layers) (head-holds read) bytes marks (read .read) (marked (read .job) (read .read)))
+pub job-held : {bytes occupants : List ℕ} {x : JobRead} {held : Held} (read : ReadGood bytes x)
+    → ((j : Job) → readJob bytes ≡ good j → Occupants (j .grid) (j .obstacles) (allPins (j .nets)) occupants)
+    → held ≡ heldOf (x .head) (x .layers) → JobHeld bytes occupants held
+job-held {bytes} {occupants} {x} read occupied is =
+    rw is (held-is (x .head) (x .layers) (head-holds read) bytes occupants (read .read) (occupied (read .job) (read .read)))
 
 -- ---- slices
 
@@ -202,7 +202,7 @@ pub has-room : (bytes map work : List ℕ) {j : Job} → readJob bytes ≡ good 
 unfolding readWithRoom withRoom roomFor
 has-room bytes map work read long longer = simp (steps, tests) (_, read, ((long, longer), refl))
 
-module _ {bytes marks : List ℕ} {held : Held} (h : JobHeld bytes marks held) (map work : List ℕ) {r : Room}
+module _ {bytes occupants : List ℕ} {held : Held} (h : JobHeld bytes occupants held) (map work : List ℕ) {r : Room}
     (answer : r ≡ roomAnswer (roomFor (held .vertices) (held .work) map work)) where
   -- the answer is the job's
   answer-is : r ≡ roomAnswer (roomFor (vertices (h .job .grid)) (workNeed (h .job)) map work)
@@ -222,8 +222,8 @@ module _ {bytes marks : List ℕ} {held : Held} (h : JobHeld bytes marks held) (
       record { read = rw (h .read, both) refl; vertices = long; need = longer }
 
 -- what reading a plan asks, and routing
-pub plan-asked : {bytes marks : List ℕ} {held : Held} (h : JobHeld bytes marks held) {map : List ℕ} → vertices (h .job .grid) ≤ length map
-    → PlanHeld bytes (held .tech) marks map (held .nets) (held .from)
+pub plan-asked : {bytes occupants : List ℕ} {held : Held} (h : JobHeld bytes occupants held) {map : List ℕ} → vertices (h .job .grid) ≤ length map
+    → PlanHeld bytes (held .tech) occupants map (held .nets) (held .from)
 plan-asked h room =
     record {
       job = h .job;
@@ -232,6 +232,6 @@ plan-asked h room =
       fits = h .fits;
       nets = h .nets;
       from = h .from;
-      marked = h .marked;
+      occupied = h .occupied;
       room = room;
     }

@@ -24,7 +24,7 @@ use Rattle.job.specs.Reading.{good}
 use Rattle.rules.specs.Routings.{routing, Totals}
 use Rattle.rules.specs.Joins.{places}
 use Rattle.rules.specs.Maps.{mapOf}
-use Rattle.rules.specs.Prices.{Tech, techOf}
+use Rattle.rules.specs.Prices.{techOf}
 use Rattle.rules.specs.Structs.{techBy}
 use Rattle.plan.specs.Layout.{planOf, planBytes}
 use Rattle.plan.proofs.TwoWay.{entries-below}
@@ -44,11 +44,11 @@ use Rattle.router.proofs.Holding.{Roomy, plan-asked}
 use Rattle.router.proofs.Ends.{routes-short, routes-whole}
 
 -- what routing asks, with the need of work zero
-pub route-asked : {bytes marks : List ℕ} {held : Held} (h : JobHeld bytes marks held) (map work : List ℕ) {workNow : List ℕ}
+pub route-asked : {bytes occupants : List ℕ} {held : Held} (h : JobHeld bytes occupants held) (map work : List ℕ) {workNow : List ℕ}
     → Roomy bytes (h .job) map work → workNow ≡ zeroed (held .work) work
-    → PlanHeld bytes (held .tech) marks map (held .nets) (held .from) × Blank (techBy (held .tech)) workNow
+    → PlanHeld bytes (held .tech) occupants map (held .nets) (held .from) × Blank (techBy (held .tech)) workNow
 unfolding Bare places techOf workNeed
-route-asked {bytes} {marks} {held} h map work roomy zeros =
+route-asked {bytes} {occupants} {held} h map work roomy zeros =
     let j = h .job in
     let longest = largestMinLength (j .lines) + 1 in
     let both : vertices (j .grid) * 2 * longest + vertices (j .grid) * 2 * longest ≡ vertices (j .grid) * 4 * longest =

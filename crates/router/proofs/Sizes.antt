@@ -9,7 +9,7 @@ use Rattle.router.specs.Held.{JobHeld}
 use Rattle.router.specs.Sizing.{sized, sizingOf}
 use Rattle.router.specs.declared.held.Held.{Held}
 
-pub good-sized : (bytes : List ℕ) {marks : List ℕ} {held : Held} → JobHeld bytes marks held
+pub good-sized : (bytes : List ℕ) {occupants : List ℕ} {held : Held} → JobHeld bytes occupants held
     → record { refusal = 0; place = 0; vertices = held .vertices; work = held .work } ≡ sizingOf bytes
 unfolding sizingOf sized
 good-sized bytes h = rw (h .read, h .vertices, h .work)

@@ -14,7 +14,7 @@ use Rattle.job.specs.Structs.{gridOf, headStruct, layersOf}
 use Rattle.job.specs.declared.groups.Head.{Head as HeadStruct}
 use Rattle.job.specs.declared.layers.Layers.{Layers}
 use Rattle.reader.specs.Structs.{largestIn}
-use Rattle.marks.specs.Marks.{Marks}
+use Rattle.occupants.specs.Occupants.{Occupants}
 use Rattle.rules.specs.Prices.{techOf}
 use Rattle.rules.specs.Routings.{Routed}
 use Rattle.rules.specs.Structs.{techBy, TechFits}
@@ -44,11 +44,12 @@ heldOf head layers =
       from = 80 + 40 * head .grid .layers + 27 * head .obstacles;
     }
 
--- the bytes hold a good job, these are its marks, and the code holds its layers, its needs, and where its nets stand
-pub record JobHeld (bytes marks : List ℕ) (held : Held) : Type 0 where
+-- the bytes hold a good job, these are its occupants, and the code holds its layers, its needs, and where its
+-- nets stand
+pub record JobHeld (bytes occupants : List ℕ) (held : Held) : Type 0 where
   pub job : Job
   pub read : readJob bytes ≡ good job
-  pub marked : Marks (job .grid) (job .obstacles) (allPins (job .nets)) marks
+  pub occupied : Occupants (job .grid) (job .obstacles) (allPins (job .nets)) occupants
   pub layers : techBy (held .tech) ≡ techOf job
   pub fits : TechFits (held .tech)
   pub vertices : held .vertices ≡ vertices (job .grid)

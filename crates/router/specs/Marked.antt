@@ -16,7 +16,8 @@ use Rattle.router.specs.Routing.{routingOf, planIn}
 abbrev pub rowPlan : Row → List ℕ
 rowPlan row = planBytes (row .job .grid) (row .records)
 
--- routing the row's bytes, with slices that are long enough, is not refused, and its plan is the bytes of the row's records
+-- routing the row's bytes, with slices that are long enough, is not refused, and its plan is the bytes of the
+-- row's records
 abbrev pub RowRoutes : Row → Type 0
 RowRoutes row =
     (map work plan : List ℕ) → vertices (row .job .grid) ≤ length map → workNeed (row .job) ≤ length work → length (rowPlan row) ≤ length plan

@@ -1,5 +1,5 @@
--- The outcome of replay: "job, plan, map, work; same map and totals, no test for cheapest". The job's numbers come first, then 12 and 13, then the
--- plan's.
+-- The outcome of replay: "job, plan, map, work; same map and totals, no test for cheapest". The job's numbers
+-- come first, then 12 and 13, then the plan's.
 --     ReplayOutcome     the result, and both slices at exit
 --     replayLeaves      the three put together
 --     replayOf          from the bytes and the slices at entry
@@ -38,8 +38,8 @@ replayResult (good r) =
       joined = r .totals .joined;
     }
 
--- after 1 to 13 both slices are as found. Else the plan's answer; "After success the needed part of work is zero", and after a refusal of the plan
--- too
+-- after 1 to 13 both slices are as found. Else the plan's answer; "After success the needed part of work is
+-- zero", and after a refusal of the plan too
 unfoldable pub replayRead : Read Job → (plan map work : List ℕ) → ReplayOutcome
 replayRead (refused n p) plan map work = replayLeaves (refusedReplay n p) map work
 replayRead (good j) plan map work =

@@ -1,5 +1,5 @@
--- The outcome of routing: "job, map, work, plan; returns plan bytes and the totals". The job's numbers come first, then 12 and 13, then routing,
--- then 14.
+-- The outcome of routing: "job, map, work, plan; returns plan bytes and the totals". The job's numbers come
+-- first, then 12 and 13, then routing, then 14.
 --     RoutingOutcome     the result, and the three slices at exit
 --     routingLeaves      the four put together
 --     routed             what routing gives, or 14
@@ -61,8 +61,9 @@ unfoldable pub planLeft : Job → Read Routed → (plan : List ℕ) → List ℕ
 planLeft j (refused n p) plan = replicate (length plan) 0
 planLeft j (good r) plan = planOf j ++ drop (length (planOf j)) plan
 
--- after 1 to 13 all slices are as found. After 14 "needed parts of map and work zero", else the map that replay leaves of such a routing; "After
--- success the needed part of work is zero; slices beyond their need are as found."
+-- after 1 to 13 all slices are as found. After 14 "needed parts of map and work zero", else the map that
+-- replay leaves of such a routing; "After success the needed part of work is zero; slices beyond their need
+-- are as found."
 unfoldable pub routingRead : Read Job → (map work plan : List ℕ) → RoutingOutcome
 routingRead (refused n p) map work plan = routingLeaves (refusedRouting n p) map work plan
 routingRead (good j) map work plan =

@@ -6,8 +6,8 @@ use crate::held::Held;
 use crate::held::Room;
 use crate::held::held_of;
 use crate::held::room_for;
-use marks::reached::Reached;
 use metal::zeros::zero_words;
+use occupants::reached::Reached;
 use reader::whole::read_job;
 use replay::whole::Replayed;
 use replay::whole::replay_plan;
@@ -58,10 +58,10 @@ fn replay_job(
     plan: &[u8],
     map: &mut [u16],
     work: &mut [u64],
-    marks: &[u8; 16384],
+    occupants: &[u8; 16384],
     held: Held,
 ) -> ReplayResult
-    requires { ⌜ JobHeld (now bytes) (now marks) held ⌝ }
+    requires { ⌜ JobHeld (now bytes) (now occupants) held ⌝ }
     ensures { λ r. ⌜ replayLeaves r (now (map .exit)) (now (work .exit))
         ≡ replayOf (now (bytes .entry)) (now (plan .entry)) (now (map .entry)) (now (work .entry)) ⌝ }
 {
@@ -71,7 +71,7 @@ fn replay_job(
         Room::Enough => {
             zero_words(work, held.work);
             let tech = held.tech;
-            let replayed = replay_plan(bytes, tech, marks, map, plan, held.nets, held.from);
+            let replayed = replay_plan(bytes, tech, occupants, map, plan, held.nets, held.from);
             result_of(replayed)
         }
     }
@@ -88,8 +88,8 @@ pub extern "C" fn maizespell_replay(
     ensures map { λ _. ⌜ now (map .exit) ≡ replayOf (now (bytes .entry)) (now (plan .entry)) (now (map .entry)) (now (work .entry)) .map ⌝ }
     ensures work { λ _. ⌜ now (work .exit) ≡ replayOf (now (bytes .entry)) (now (plan .entry)) (now (map .entry)) (now (work .entry)) .work ⌝ }
 {
-    let mut marks = [0u8; 16384];
-    let read = read_job(bytes, &mut marks);
+    let mut occupants = [0u8; 16384];
+    let read = read_job(bytes, &mut occupants);
     let reached = read.reached;
     match reached {
         Reached::Refused(refusal, place) => refused_replay(refusal, place),
@@ -97,7 +97,7 @@ pub extern "C" fn maizespell_replay(
             let head = read.head;
             let layers = read.layers;
             let held = held_of(head, layers);
-            replay_job(bytes, plan, map, work, &marks, held)
+            replay_job(bytes, plan, map, work, &occupants, held)
         }
     }
 }

@@ -15,10 +15,10 @@ use crate::held::Held;
 use crate::held::Room;
 use crate::held::held_of;
 use crate::held::room_for;
-use marks::reached::Reached;
 use metal::zeros::zero_bytes;
 use metal::zeros::zero_codes;
 use metal::zeros::zero_words;
+use occupants::reached::Reached;
 use reader::whole::read_job;
 use routing::whole::route_plan;
 use rules::totals::Totals;
@@ -86,10 +86,10 @@ fn route_job(
     map: &mut [u16],
     work: &mut [u64],
     plan: &mut [u8],
-    marks: &[u8; 16384],
+    occupants: &[u8; 16384],
     held: Held,
 ) -> RoutingResult
-    requires { ⌜ JobHeld (now bytes) (now marks) held ⌝ }
+    requires { ⌜ JobHeld (now bytes) (now occupants) held ⌝ }
     ensures { λ r. ⌜ routingLeaves r (now (map .exit)) (now (work .exit)) (now (plan .exit))
         ≡ routingOf (now (bytes .entry)) (now (map .entry)) (now (work .entry)) (now (plan .entry)) ⌝ }
 {
@@ -99,7 +99,16 @@ fn route_job(
         Room::Enough => {
             zero_words(work, held.work);
             let tech = held.tech;
-            let routed = route_plan(bytes, tech, marks, map, work, plan, held.nets, held.from);
+            let routed = route_plan(
+                bytes,
+                tech,
+                occupants,
+                map,
+                work,
+                plan,
+                held.nets,
+                held.from,
+            );
             let totals = routed.totals;
             end_routing(map, plan, held.vertices, totals, (routed.bits + 7) / 8)
         }
@@ -120,8 +129,8 @@ pub extern "C" fn maizespell_routing(
     ensures cheapest { λ r. ⌜ (r .refusal ≡ 0
         → (j : Job) → readJob (now (bytes .entry)) ≡ good j → Cheapest j (take (r .bytes) (now (plan .exit)))) ⌝ }
 {
-    let mut marks = [0u8; 16384];
-    let read = read_job(bytes, &mut marks);
+    let mut occupants = [0u8; 16384];
+    let read = read_job(bytes, &mut occupants);
     let reached = read.reached;
     match reached {
         Reached::Refused(refusal, place) => refused_routing(refusal, place),
@@ -129,7 +138,7 @@ pub extern "C" fn maizespell_routing(
             let head = read.head;
             let layers = read.layers;
             let held = held_of(head, layers);
-            route_job(bytes, map, work, plan, &marks, held)
+            route_job(bytes, map, work, plan, &occupants, held)
         }
     }
 }

@@ -2,7 +2,7 @@
 ghost use mathlib.Core.Path.{_≡_};
 ghost use Rattle.router.specs.Sizing.{sizingOf};
 use crate::held::held_of;
-use marks::reached::Reached;
+use occupants::reached::Reached;
 use reader::whole::read_job;
 
 // The refusal is 0 where the job is good, and so is its place; else vertices and work are 0.
@@ -18,8 +18,8 @@ pub struct SizingResult {
 pub extern "C" fn maizespell_sizing(bytes: &[u8]) -> SizingResult
     ensures { λ r. ⌜ r ≡ sizingOf (now (bytes .entry)) ⌝ }
 {
-    let mut marks = [0u8; 16384];
-    let read = read_job(bytes, &mut marks);
+    let mut occupants = [0u8; 16384];
+    let read = read_job(bytes, &mut occupants);
     let reached = read.reached;
     match reached {
         Reached::At(_) => {

@@ -27,7 +27,7 @@ use Rattle.rules.specs.Routings.{Entry, Totals, noTotals, withJoin, withNet, Ro
 use Rattle.rules.specs.declared.price.Tech.{Tech as TechStruct}
 use Rattle.rules.specs.declared.totals.Totals.{Totals as TotalsStruct}
 use Rattle.plan.specs.Layout.{entryBits}
-use Rattle.plan.proofs.NetsRead.{entries-append}
+use Rattle.plan.proofs.Entries.{entries-append}
 use Rattle.metal.proofs.Slices.{beyond-trans}
 use Rattle.tree.specs.Spots.{begunSpots}
 use Rattle.views.specs.Sight.{NetAtHand}
@@ -72,16 +72,16 @@ regroup : (xs ys : List Entry) (r : Routed) → withEntries xs (withEntries ys r
 unfolding withEntries
 regroup xs ys r = λ i. record { entries = sym (append-assoc xs ys (r .entries)) i; metal = r .metal; totals = r .totals }
 
-module _ (bytes : List ℕ) (tech : TechStruct) (marks found planFound : List ℕ) where
+module _ (bytes : List ℕ) (tech : TechStruct) (occupants found planFound : List ℕ) where
   -- so many nets are left: the rest from here gives the whole, and the plan holds what is done
-  pub record Netting (codes pins boxes plan : List ℕ) (place bits : ℕ) (totals : TotalsStruct) (net left : ℕ) : Type 0 where
+  pub record Netting (codes pins boxes plan : List ℕ) (position bits : ℕ) (totals : TotalsStruct) (net left : ℕ) : Type 0 where
     pub count : ℕ
     pub start : ℕ
-    pub held : NetsHeld bytes tech marks found count start
+    pub held : NetsHeld bytes tech occupants found count start
     pub before : List Net
     pub after : List Net
     pub metal : List (List ℕ)
-    pub nets : Nets bytes tech marks found held before after metal codes pins boxes place net left
+    pub nets : Nets bytes tech occupants found held before after metal codes pins boxes position net left
     pub done : List Entry
     pub same : routing (held .job) ≡ withEntries done (routeNets (held .job) (length before) after metal (totalsOf totals))
     pub put : plan ≡ putBits planFound 0 (entryBits (held .job .grid) done)
@@ -90,7 +90,7 @@ module _ (bytes : List ℕ) (tech : TechStruct) (marks found planFound : List �
     pub long : length plan ≡ length planFound
 
   -- before the first net
-  pub netting-begun : {count start : ℕ} {pins boxes : List ℕ} → NetsHeld bytes tech marks found count start → length pins ≡ 16 → length boxes ≡ 90
+  pub netting-begun : {count start : ℕ} {pins boxes : List ℕ} → NetsHeld bytes tech occupants found count start → length pins ≡ 16 → length boxes ≡ 90
       → {totals : TotalsStruct} → totals ≡ record { cost = 0; added = 0; penalties = 0; joined = 0 } → Netting found pins boxes planFound start 0 totals 0 count
   unfolding routing noTotals withEntries concatBits putBits
   netting-begun {count} {start} held sixteen ninety zero-totals =
@@ -101,7 +101,7 @@ module _ (bytes : List ℕ) (tech : TechStruct) (marks found planFound : List �
         before = [];
         after = held .job .nets;
         metal = metalAtFirst (held .job);
-        nets = nets-begun bytes tech marks found held sixteen ninety;
+        nets = nets-begun bytes tech occupants found held sixteen ninety;
         done = [];
         same = refl;
         put = refl;
@@ -110,25 +110,25 @@ module _ (bytes : List ℕ) (tech : TechStruct) (marks found planFound : List �
         long = refl;
       })
 
-  module _ {codes pins boxes plan : List ℕ} {place bits : ℕ} {totals : TotalsStruct} {net left : ℕ}
-      (so-far : Netting codes pins boxes plan place bits totals net left) where
+  module _ {codes pins boxes plan : List ℕ} {position bits : ℕ} {totals : TotalsStruct} {net left : ℕ}
+      (so-far : Netting codes pins boxes plan position bits totals net left) where
     abbrev job : Job
     job = so-far .held .job
 
     abbrev k : ℕ
     k = length (so-far .before)
 
-    module _ (some : 0 < left) {loaded : NetLoaded} {pins′ boxes′ : List ℕ} (isLoaded : loaded ≡ netLoaded (bitsOf bytes) place)
-        (isPins : pins′ ≡ pinsLoaded (bitsOf bytes) (gridOf (tech .grid)) place pins) (isBoxes : boxes′ ≡ boxesLoaded (bitsOf bytes) place boxes)
+    module _ (some : 0 < left) {loaded : NetLoaded} {pins′ boxes′ : List ℕ} (isLoaded : loaded ≡ netLoaded (bitsOf bytes) position)
+        (isPins : pins′ ≡ pinsLoaded (bitsOf bytes) (gridOf (tech .grid)) position pins) (isBoxes : boxes′ ≡ boxesLoaded (bitsOf bytes) position boxes)
         (view : View) (sees : (j : Job) (i : ℕ) (metal : List (List ℕ)) → gridOf (tech .grid) ≡ j .grid → net + 1 ≡ suc i
-        → NetAtHand j i metal marks codes pins′ boxes′ (loaded .pins) (loaded .boxes) → view ≡ viewOf j i metal) where
+        → NetAtHand j i metal occupants codes pins′ boxes′ (loaded .pins) (loaded .boxes) → view ≡ viewOf j i metal) where
       -- the nets after the one at hand
       abbrev others : List Net
-      others = hand bytes tech marks found (so-far .held) (so-far .nets) some .1
+      others = hand bytes tech occupants found (so-far .held) (so-far .nets) some .1
 
       -- its pins, by number
       abbrev pins-own : List ℕ
-      pins-own = own bytes tech marks found (so-far .held) (so-far .nets) some
+      pins-own = own bytes tech occupants found (so-far .held) (so-far .nets) some
 
       -- what stands before its first record
       abbrev stands : Standing
@@ -138,14 +138,14 @@ module _ (bytes : List ℕ) (tech : TechStruct) (marks found planFound : List �
       net-here : NetHere job k stands tech view (net + 1) (take (loaded .pins) pins′)
           (record { spots = begunSpots (take (loaded .pins) pins′) (replicate 16384 0); codes = codes })
       net-here =
-          let mine = sym (own-pins bytes tech marks found (so-far .held) (so-far .nets) some isLoaded isPins isBoxes) in
+          let mine = sym (own-pins bytes tech occupants found (so-far .held) (so-far .nets) some isLoaded isPins isBoxes) in
           record {
-            rules = rules bytes tech marks found (so-far .held);
+            rules = rules bytes tech occupants found (so-far .held);
             layers = so-far .held .layers;
             number = omega (arith, so-far .nets .number);
-            below = subst (λ (ps : List ℕ). All (λ v. v < vertices (job .grid)) ps) mine (own-below bytes tech marks found (so-far .held) (so-far .nets) some);
+            below = subst (λ (ps : List ℕ). All (λ v. v < vertices (job .grid)) ps) mine (own-below bytes tech occupants found (so-far .held) (so-far .nets) some);
             here = subst (λ (ps : List ℕ). AtNet job k view ps stands (record { spots = begunSpots ps (replicate 16384 0); codes = codes })) mine
-                (at-net bytes tech marks found (so-far .held) (so-far .nets) some isLoaded isPins isBoxes view sees);
+                (at-net bytes tech occupants found (so-far .held) (so-far .nets) some isLoaded isPins isBoxes view sees);
           }
 
       -- its records
@@ -157,7 +157,7 @@ module _ (bytes : List ℕ) (tech : TechStruct) (marks found planFound : List �
       unfolding routeNets withEntries
       one-net =
           so-far .same ∙ ap (λ (ns : List Net). withEntries (so-far .done) (routeNets job k ns (so-far .metal) (totalsOf totals)))
-          (hand bytes tech marks found (so-far .held) (so-far .nets) some .2)
+          (hand bytes tech occupants found (so-far .held) (so-far .nets) some .2)
           ∙ regroup (so-far .done) (this .entries) (routeNets job (suc k) others (this .metal) (this .totals))
 
       -- after it
@@ -168,9 +168,9 @@ module _ (bytes : List ℕ) (tech : TechStruct) (marks found planFound : List �
           → Bounded (16 * (net + 1) + 16) (r .totals) (r .bits) → length plan′ ≡ length plan
           → Netting codes′ pins′ boxes′ plan′ (loaded .next) (r .bits) (r .totals) (net + 1) (left - 1)
       netting-on r {codes′} {plan′} answer fits long =
-          let many = own-count bytes tech marks found (so-far .held) (so-far .nets) some isLoaded isPins isBoxes in
+          let many = own-count bytes tech occupants found (so-far .held) (so-far .nets) some isLoaded isPins isBoxes in
           let routed = subst (λ (n : ℕ). IsRouted job (routeNet job k n stands (totalsOf totals)) bits r plan plan′ codes codes′) many (answer job k stands net-here) in
-          let one = one-on bytes tech marks found (so-far .held) (so-far .nets) some isLoaded isPins isBoxes in
+          let one = one-on bytes tech occupants found (so-far .held) (so-far .nets) some isLoaded isPins isBoxes in
           let g = job .grid in
           let here : bits ≡ 0 + length (entryBits g (so-far .done)) = omega (arith, so-far .next) in
           let more : entryBits g (so-far .done ++ this .entries) ≡ entryBits g (so-far .done) ++ entryBits g (this .entries) = entries-append g (so-far .done) (this .entries) in
@@ -178,10 +178,10 @@ module _ (bytes : List ℕ) (tech : TechStruct) (marks found planFound : List �
             count = so-far .count;
             start = so-far .start;
             held = so-far .held;
-            before = so-far .before ++ (hand bytes tech marks found (so-far .held) (so-far .nets) some .0 ∷ []);
+            before = so-far .before ++ (hand bytes tech occupants found (so-far .held) (so-far .nets) some .0 ∷ []);
             after = others;
             metal = this .metal;
-            nets = nets-on bytes tech marks found (so-far .held) (so-far .nets) some isLoaded isPins isBoxes
+            nets = nets-on bytes tech occupants found (so-far .held) (so-far .nets) some isLoaded isPins isBoxes
                 (net-metals job k (length pins-own) stands (totalsOf totals)) (routed .coded) (beyond-trans (routed .kept) (so-far .nets .kept));
             done = so-far .done ++ this .entries;
             same = one-net ∙ (λ i. withEntries (so-far .done ++ this .entries) (routeNets job (sym one i) others (this .metal) (sym (routed .totals) i)));
@@ -213,7 +213,7 @@ module _ (bytes : List ℕ) (tech : TechStruct) (marks found planFound : List �
     -- the totals of all nets are small
     pub fits-all : Bounded 4112 totals bits
     fits-all =
-        let few = nets-few bytes tech marks found (so-far .held) (so-far .nets) in
+        let few = nets-few bytes tech occupants found (so-far .held) (so-far .nets) in
         let b = so-far .bounded in
         record {
           cost = omega (arith, b .cost);

@@ -22,19 +22,19 @@ use Rattle.routing.specs.Plans.{planBits}
 use Rattle.routing.specs.Structs.{IsRouted}
 use Rattle.routing.specs.declared.routed.Routed.{Routed as RoutedStruct}
 
-module _ (bytes : List ℕ) (tech : TechStruct) (marks found : List ℕ) (count start : ℕ) (held : PlanHeld bytes tech marks found count start)
+module _ (bytes : List ℕ) (tech : TechStruct) (occupants found : List ℕ) (count start : ℕ) (held : PlanHeld bytes tech occupants found count start)
     {bare laid : List ℕ} (zeros : bare ≡ zeroed (vertices (gridOf (tech .grid))) found) (kept : Beyond (vertices (gridOf (tech .grid))) laid bare)
     (planFound : List ℕ) (r : RoutedStruct) {after plan : List ℕ}
     (routed : (j : Job) → readJob bytes ≡ good j → IsRouted j (routing j) 0 r planFound plan laid after) where
   -- past the grid the map is as it was with the pins laid
   still : Beyond (vertices (gridOf (tech .grid))) after laid
   still =
-      subst (λ (g : Grid). Beyond (vertices g) after laid) (sym (read-grid bytes tech marks found count start held (held .job) (held .read)))
+      subst (λ (g : Grid). Beyond (vertices g) after laid) (sym (read-grid bytes tech occupants found count start held (held .job) (held .read)))
       (routed (held .job) (held .read) .kept)
 
   -- the map has room after the nets
   pub routed-long : vertices (gridOf (tech .grid)) ≤ length after
-  routed-long = after-long bytes tech marks found count start held zeros kept still
+  routed-long = after-long bytes tech occupants found count start held zeros kept still
 
   -- the totals, and how many bits the plan has
   pub routed-answer : (j : Job) → readJob bytes ≡ good j → (totalsOf (r .totals) ≡ routing j .totals) × (r .bits ≡ length (planBits j))
@@ -47,11 +47,11 @@ module _ (bytes : List ℕ) (tech : TechStruct) (marks found : List ℕ) (count 
   routed-plan j read = routed j read .bits
 
   -- the map
-  pub routed-map : {n : ℕ} {map : List ℕ} → n ≡ vertices (gridOf (tech .grid)) → map ≡ withObstacles marks n after
+  pub routed-map : {n : ℕ} {map : List ℕ} → n ≡ vertices (gridOf (tech .grid)) → map ≡ withObstacles occupants n after
       → (j : Job) → readJob bytes ≡ good j → map ≡ mapOf j (routing j .metal) ++ drop (vertices (j .grid)) found
   routed-map counted finished j read =
-      let g = read-grid bytes tech marks found count start held j read in
-      finished ∙ ap (λ (m : ℕ). withObstacles marks m after) counted
-      ∙ finished-map bytes tech marks found count start held (routing j .metal) after
+      let g = read-grid bytes tech occupants found count start held j read in
+      finished ∙ ap (λ (m : ℕ). withObstacles occupants m after) counted
+      ∙ finished-map bytes tech occupants found count start held (routing j .metal) after
       (subst (λ (h : Grid). Codes h (routing j .metal) after) (sym g) (routed j read .coded))
-      (beyond-trans still (laid-kept bytes tech marks found count start held zeros kept)) j read
+      (beyond-trans still (laid-kept bytes tech occupants found count start held zeros kept)) j read

@@ -31,8 +31,8 @@ pub record NetHere (j : Job) (k : ℕ) (s : Standing) (tech : TechStruct) (view 
   pub below : All (λ v. v < vertices (j .grid)) pins
   pub here : AtNet j k view pins s arrays
 
--- the totals are those of what was routed, its records' bits are put from a bit on, and the map's codes are those of its metal; past the grid the
--- map is as found
+-- the totals are those of what was routed, its records' bits are put from a bit on, and the map's codes are
+-- those of its metal; past the grid the map is as found
 pub record IsRouted (j : Job) (r : Routed) (from : ℕ) (end : RoutedStruct) (planFound planNow mapFound mapNow : List ℕ) : Type 0 where
   pub totals : totalsOf (end .totals) ≡ r .totals
   pub next : end .bits ≡ from + length (entryBits (j .grid) (r .entries))

@@ -20,14 +20,14 @@ use walker::NetAtHand;
 pub fn route_nets(
     s: &[u8],
     tech: Tech,
-    marks: &[u8; 16384],
+    occupants: &[u8; 16384],
     map: &mut [u16],
     work: &mut [u64],
     plan: &mut [u8],
     nets: usize,
     from: usize,
 ) -> Routed
-    requires { ⌜ (NetsHeld (now s) tech (now marks) (now map) nets from) × (Blank (techBy tech) (now work)) ⌝ }
+    requires { ⌜ (NetsHeld (now s) tech (now occupants) (now map) nets from) × (Blank (techBy tech) (now work)) ⌝ }
     ensures answer { λ r. ⌜ ((j : Job) → readJob (now (s .entry)) ≡ good j
         → IsRouted j (routing j) 0 r (now (plan .entry)) (now (plan .exit)) (now (map .entry)) (now (map .exit))) ⌝ }
     ensures fits { λ r. ⌜ Bounded 4112 (r .totals) (r .bits) ⌝ }
@@ -36,7 +36,7 @@ pub fn route_nets(
     let mut seen = [0u8; 16384];
     let mut pins: [usize; 16] = [0; 16];
     let mut boxes: [usize; 90] = [0; 90];
-    let mut place = from;
+    let mut position = from;
     let mut routed = Routed {
         totals: no_totals(),
         bits: 0,
@@ -46,11 +46,11 @@ pub fn route_nets(
     let mut prices: [usize; 48] = [0; 48];
     fill_prices(&mut prices, tech);
     while 0 < left {
-        let loaded = load_net(s, tech.grid, place, &mut pins, &mut boxes);
+        let loaded = load_net(s, tech.grid, position, &mut pins, &mut boxes);
         net += 1;
         see_net(
             &mut seen,
-            marks,
+            occupants,
             map,
             tech.grid,
             &pins,
@@ -64,7 +64,7 @@ pub fn route_nets(
             pins: loaded.pins,
         };
         routed = route_net(tech, &prices, &seen, map, work, plan, hand, &pins, routed);
-        place = loaded.next;
+        position = loaded.next;
         left -= 1;
     }
     routed

@@ -24,14 +24,14 @@ use rules::price::Tech;
 pub fn route_plan(
     s: &[u8],
     tech: Tech,
-    marks: &[u8; 16384],
+    occupants: &[u8; 16384],
     map: &mut [u16],
     work: &mut [u64],
     plan: &mut [u8],
     nets: usize,
     from: usize,
 ) -> Routed
-    requires { ⌜ (PlanHeld (now s) tech (now marks) (now map) nets from) × (Blank (techBy tech) (now work)) ⌝ }
+    requires { ⌜ (PlanHeld (now s) tech (now occupants) (now map) nets from) × (Blank (techBy tech) (now work)) ⌝ }
     ensures answer { λ r. ⌜ ((j : Job) → readJob (now (s .entry)) ≡ good j → (totalsOf (r .totals) ≡ routing j .totals) × (r .bits ≡ length (planBits j))) ⌝ }
     ensures fits { λ r. ⌜ r .bits ≤ 2 ^ 23 * 4112 ⌝ }
     ensures map { λ _. ⌜ ((j : Job) → readJob (now (s .entry)) ≡ good j
@@ -42,7 +42,7 @@ pub fn route_plan(
     let count = tech.grid.vertices();
     zero_codes(map, count);
     lay_all_pins(s, tech.grid, nets, from, map);
-    let routed = route_nets(s, tech, marks, map, work, plan, nets, from);
-    put_obstacles(map, marks, count);
+    let routed = route_nets(s, tech, occupants, map, work, plan, nets, from);
+    put_obstacles(map, occupants, count);
     routed
 }

@@ -33,7 +33,8 @@ use Rattle.rules.proofs.Lawful.{lawful}
 
 -- ---- the table
 
--- the cost at a place: the table has a row for each vertex, and the row an entry for each segment in the order of their numbers
+-- the cost at a place: the table has a row for each vertex, and the row an entry for each segment in the
+-- order of their numbers
 unfoldable pub tableCost : Tech → (table : List (List ℕ)) → Place → Cost
 tableCost t table p = entryCost (getD (getD table (p .vertex) []) (segmentCode (largestMinLength (t .lines)) (p .segment)) 0)
 

@@ -1,4 +1,5 @@
--- The records that routing writes: before each stand a tree and unjoined pins that are apart, and each is the join of what stands.
+-- The records that routing writes: before each stand a tree and unjoined pins that are apart, and each is the
+-- join of what stands.
 --     Written, all-written     of one record, and of all
 use Prim.Native.Nat.{ℕ, zero, suc}
 use mathlib.Core.Path.{_≡_, refl, sym}

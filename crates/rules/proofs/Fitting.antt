@@ -1,10 +1,10 @@
 -- Numbers of a vertex that fit a word.
---     fits              a vertex of a small grid, and the divisors that take it apart
---     low-by, down-by   what a move low or down takes off is no more than the vertex
---     enters-none       a number that is no move's
---     track-read        what the code has read of a vertex and its track
---     layer-known       a vertex's layer is below 8
---     entered-outside, entered-at   what was entered, from the code's form
+--     fits                           a vertex of a small grid, and the divisors that take it apart
+--     low-by, down-by                what a move low or down takes off is no more than the vertex
+--     enters-none                    a number that is no move's
+--     track-read                     what the code has read of a vertex and its track
+--     layer-known                    a vertex's layer is below 8
+--     entered-outside, entered-at    what was entered, from the code's form
 use Prim.Native.Nat.{ℕ, zero, suc, _+_, _-_, _*_, _≤_, _<_}
 use mathlib.Core.Path.{_≡_, refl, ap, _∙_}
 use mathlib.Core.List.{List}

@@ -1,11 +1,17 @@
--- The totals behind a `&mut`, and a local of them that is lent: the steps that the walks by hand of such functions share.
+-- The totals behind a `&mut`, and a local of them that is lent: the steps that the walks by hand of such
+-- functions share.
 --     Fits, fits-of, made, typed, fit    the numbers fit a `usize`, and so the machine values are right
---     here, behind, gone     of any walk: what a local holds is read; a field behind a reference is found; a local is freed
---     number                 what a number among the parameters owns
---     opened, closed         a borrow is opened: the record lies there. It is closed, at a record whose numbers fit
---     lent, returned         a local is lent for a lifetime of its own. That lifetime is over: the local holds what the reference showed last
---     Answer, answered       what a callee answers that took the loan: the local holds the record that the callee promises
--- A context is written in the walks as the list of its entries; local n of k locals stands at 2 × (k - 1 - n), before what frees it.
+--     here, behind, gone                 of any walk: what a local holds is read; a field behind a reference
+--                                        is found; a local is freed
+--     number                             what a number among the parameters owns
+--     opened, closed                     a borrow is opened: the record lies there. It is closed, at a record
+--                                        whose numbers fit
+--     lent, returned                     a local is lent for a lifetime of its own. That lifetime is over:
+--                                        the local holds what the reference showed last
+--     Answer, answered                   what a callee answers that took the loan: the local holds the record
+--                                        that the callee promises
+-- A context is written in the walks as the list of its entries; local n of k locals stands at 2 × (k - 1 -
+-- n), before what frees it.
 use mathlib.Core.Path.{_≡_, refl, sym, subst}
 use Prim.Native.Nat.{ℕ, zero, _+_, _<_, _^_}
 use mathlib.Core.Option.{some as there}
@@ -82,7 +88,8 @@ local b h = fat fullShare T′.mir b 0 (T′.lowered h)
 abbrev pub Loan : ℕ → ℕ → GName → Totals → Fml
 Loan b ν γ h = MutRef (named 0) (ν ∷ []) R .own (refTo b 0 γ h) (vptr b 0 ∷ [])
 
--- a callee that took the loan answers: the lifetime's token, nothing as result, and that h is the last value. X and rest are of its other parameters
+-- a callee that took the loan answers: the lifetime's token, nothing as result, and that h is the last value.
+-- X and rest are of its other parameters
 abbrev pub Answer : {M : Type 1} (𝓤 : URA M) → Totals → Val → ℕ → GName → Type 0 → Fml → Item 𝓤
 Answer 𝓤 h w ν γ X rest =
     later (some (λ (r : Unit {0}). ((‵ (flft (ν ∷ []) fullShare) ⊛ ‵ ftrue) ⊛ ‵ (unit .own r (w ∷ []))) ⊛

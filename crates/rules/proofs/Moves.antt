@@ -1,5 +1,6 @@
 -- A legal move leads from a good place to another, at a price from 1 to 197,625.
---     Went, step-parts     the vertex that a legal move enters, the price of entering it, and what the segment makes of it
+--     Went, step-parts     the vertex that a legal move enters, the price of entering it, and what the
+--                          segment makes of it
 --     step-keeps           the next place is good
 --     step-costs           a move costs at least 1
 --     step-limits          a move costs at most 197,625

@@ -1,7 +1,8 @@
 -- Walking a track by its stride.
 --     roomToward, nextToward       how many steps the track goes on from a vertex, and the next vertex
 --     room-enters, room-ends       what a step enters where the track goes on, and where it ends
---     Onward, onward               the next vertex: of the grid, on the same track, with one step less of room
+--     Onward, onward               the next vertex: of the grid, on the same track, with one step less of
+--                                  room
 --     room-read                    the room, by what the code has read of the track
 --     run-on, run-stops            a clear run from a vertex, by whether the next one is clear
 --     run-within, run-short        a clear run is no longer than the room, so not whole where that is short

@@ -4,7 +4,7 @@
 --     Led           the next place, and an overhead of at most 65,534
 --     move-led      what any legal move makes of the segment
 --     owed-fits     what a via owes is at most 65,534
-use Prim.Native.Nat.{ℕ, suc, _+_, _*_, _-_, _≤_, _<_}
+use Prim.Native.Nat.{ℕ, suc, _+_, _*_, _≤_, _<_}
 use mathlib.Core.Path.{_≡_, refl, sym, ap, subst}
 use mathlib.Core.List.{List}
 use mathlib.Core.Bool.{Bool, true, false, cond}

@@ -2,7 +2,8 @@
 --     good-tech                      the layers of a good job are good
 --     least-largest                  a vertex's M is at most the largest
 --     some-largest, largest-small    the largest M is from 1 to 15
---     line-good, via-some            the layer line of a vertex is good, and its via price is at least 1 below the top layer
+--     line-good, via-some            the layer line of a vertex is good, and its via price is at least 1
+--                                    below the top layer
 use Prim.Native.Nat.{ℕ, zero, suc, _-_, _≤_, _<_, zero-le}
 use mathlib.Core.Path.{_≡_, refl, sym, subst}
 use mathlib.Core.List.{List, [], _∷_}

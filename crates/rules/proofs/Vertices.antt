@@ -1,7 +1,7 @@
 -- A vertex by its number.
 --     number-vertex, vertex-number     numbers and vertices undo each other
 --     vertex-below                     below the number of vertices, and so below the grid's sizes
-use Prim.Native.Nat.{ℕ, zero, suc, _+_, _-_, _*_, _/_, _%_, _<_}
+use Prim.Native.Nat.{ℕ, zero, suc, _+_, _*_, _/_, _%_, _<_}
 use mathlib.Core.Path.{_≡_, sym, ap, _∙_}
 use native.Mathlib.Nat.{mul-zero, mul-comm, mod-lt, div-add-mod', div-div-eq-div-mul, div-lt-iff-lt-mul, not-suc-le-zero}
 use native.Mathlib.Omega.{arith}

@@ -3,7 +3,8 @@
 --     Passed                        a vertex of the grid that is not blocked
 --     walk-on                       a walk by its first move and the rest
 --     First, walk-first             a walk taken apart after its first move
---     Walks, route-walk             the walk of a route: its end, its cost, the vertices entered and the vertices laid
+--     Walks, route-walk             the walk of a route: its end, its cost, the vertices entered and the
+--                                   vertices laid
 use Prim.Native.Nat.{ℕ, _+_, _<_}
 use mathlib.Core.Path.{_≡_, refl, _∙_}
 use mathlib.Core.List.{List, [], _∷_, _++_}

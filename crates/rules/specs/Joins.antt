@@ -2,7 +2,8 @@
 --     Record       a join with its start, moves and cost, or none
 --     IsJoin       the route that no route is ahead of; or none, and there is no route
 --     places       how many places there are
---     joinOf       the function that computes it: least cost to go, lowest start, then at each place the lowest move that keeps the cost
+--     joinOf       the function that computes it: least cost to go, lowest start, then at each place the
+--                  lowest move that keeps the cost
 use Prim.Native.Nat.{ℕ, _+_, _*_}
 use mathlib.Core.Path.{_≡_}
 use mathlib.Core.List.{List}
@@ -20,7 +21,8 @@ pub data Record : Type 0 where
   join : (start : ℕ) (moves : List ℕ) (cost : ℕ) → Record
   none : Record
 
--- "The cheapest is taken; among equals the lowest start vertex, then the move list that comes first by move number."
+-- "The cheapest is taken; among equals the lowest start vertex, then the move list that comes first by move
+-- number."
 pub data IsJoin (t : Tech) (view : View) (tree unjoined : List ℕ) : Record → Type 0 where
   first : (k : Join) {r : Record} → Route t view tree unjoined (k .start) (k .moves) (k .cost)
       → ((other : Join) → Route t view tree unjoined (other .start) (other .moves) (other .cost) → Ahead other k → ⊥)

@@ -1,4 +1,5 @@
--- The map: "0 bare, 1 to 255 that net alone (first is 1; every pin counts, joined or not), 256 several nets, 257 obstacle".
+-- The map: "0 bare, 1 to 255 that net alone (first is 1; every pin counts, joined or not), 256 several nets,
+-- 257 obstacle".
 use Prim.Native.Nat.{ℕ, zero, suc}
 use mathlib.Core.List.{List, [], _∷_}
 use mathlib.Core.Bool.{cond}

@@ -27,7 +27,8 @@ unfoldable pub onFrom : View → (ℕ → List ℕ) → Entered → List ℕ
 onFrom view beyond outside = []
 onFrom view beyond (at w) = elim (clear view w) [ true ↦ w ∷ beyond w | false ↦ [] ]
 
--- "Beyond its last vertex, in its direction, count clear vertices; the first vertex that isn't clear stops the count." At most k.
+-- "Beyond its last vertex, in its direction, count clear vertices; the first vertex that isn't clear stops
+-- the count." At most k.
 unfoldable pub clearRun : Grid → View → Direction → (k v : ℕ) → List ℕ
 clearRun g view d zero v = []
 clearRun g view d (suc k) v = onFrom view (clearRun g view d k) (entered g v (toward d))
@@ -46,8 +47,8 @@ otherwise area = cond (eqb area closedPrice) forbidden penalised
 unfoldable pub lengthenedBy : (missing : ℕ) → (run : List ℕ) → Overhead → Overhead
 lengthenedBy missing run else = cond (eqb (length run) missing) (lengthened missing run) else
 
--- "A via move out of a segment of length n < M also costs overhead." "A fresh segment tries high, then low." A segment in a direction
--- tries that.
+-- "A via move out of a segment of length n < M also costs overhead." "A fresh segment tries high, then low."
+-- A segment in a direction tries that.
 unfoldable pub overheadOf : Tech → View → (v : ℕ) → Segment → Overhead
 overheadOf t view v fresh =
     let least = lineOf t v .minLength in

@@ -2,7 +2,8 @@
 --     segmentCode, codeBy, placeCode   a segment's number, and a place's: by vertex, then segment
 --     segmentAt, placeAt               the segment and the place of a number
 --     entryCost                        an entry of a table of costs
---     GoodSegment, GoodPlace           a vertex of the grid, and a running length from 1 to below the largest M
+--     GoodSegment, GoodPlace           a vertex of the grid, and a running length from 1 to below the largest
+--                                      M
 --     GoodTech                         what a good job says of its layers
 use Prim.Native.Nat.{ℕ, zero, suc, _+_, _-_, _*_, _/_, _%_, _^_, _≤_, _<_}
 use mathlib.Core.Path.{_≡_}
@@ -16,7 +17,8 @@ use Rattle.paths.specs.Distances.{Cost, fin, inf}
 use Rattle.rules.specs.Segments.{low, high, Segment, fresh, running, paid, paidToward, Place}
 use Rattle.rules.specs.Prices.{Tech}
 
--- fresh is 0; running low and high at length n are 2n - 1 and 2n; with M the largest, paid is 2M - 1, toward low 2M, toward high 2M + 1
+-- fresh is 0; running low and high at length n are 2n - 1 and 2n; with M the largest, paid is 2M - 1, toward
+-- low 2M, toward high 2M + 1
 unfoldable pub segmentCode : (largest : ℕ) → Segment → ℕ
 segmentCode largest fresh = 0
 segmentCode largest (running low n) = 2 * n - 1

@@ -1,4 +1,5 @@
--- The price list of a job, as the code holds it in one list of 48 numbers: four for each layer, then two for each byte of a vertex's flags.
+-- The price list of a job, as the code holds it in one list of 48 numbers: four for each layer, then two for
+-- each byte of a vertex's flags.
 --     lineIn                    the line of a layer
 --     baseIn                    the wire price of a layer, or the price of a via out of it
 --     guideField, shortField    the two penalties of a byte of flags

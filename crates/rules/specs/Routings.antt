@@ -63,7 +63,8 @@ byRecord j k s totals rest (join start moves cost) =
     withEntry (record { net = k; before = s; written = join start moves cost })
     (afterJoin k s totals rest (walk (techOf j) (viewOf j k (s .metal)) (startAt start) moves))
 
--- "A net with every pin joined writes no 0." At most n joins; a join leaves fewer pins unjoined, so with n no fewer than these, at 0 all are joined.
+-- "A net with every pin joined writes no 0." At most n joins; a join leaves fewer pins unjoined, so with n no
+-- fewer than these, at 0 all are joined.
 unfoldable pub routeNet : Job → (k n : ℕ) → Standing → Totals → Routed
 routeNet j k zero s totals = record { entries = []; metal = s .metal; totals = withNet totals }
 routeNet j k (suc n) s totals =

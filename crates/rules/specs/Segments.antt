@@ -12,8 +12,8 @@ pub data Kind : Type 0 where
   along : Direction → Kind
   down up : Kind
 
--- "A move's number decides what it changes: 0 low and 1 high step along the layer's track, 2 goes down a layer, 3 up." A greater number is no
--- move's: it enters nothing.
+-- "A move's number decides what it changes: 0 low and 1 high step along the layer's track, 2 goes down a
+-- layer, 3 up." A greater number is no move's: it enters nothing.
 unfoldable pub kindOf : (move : ℕ) → Kind
 kindOf zero = along low
 kindOf (suc zero) = along high
@@ -27,7 +27,8 @@ against low high = true
 against high low = true
 against high high = false
 
--- "At each moment a segment is fresh, running low or high, or paid." A paid segment has a direction once it has made a step.
+-- "At each moment a segment is fresh, running low or high, or paid." A paid segment has a direction once it
+-- has made a step.
 pub data Segment : Type 0 where
   fresh : Segment
   running : Direction → (length : ℕ) → Segment

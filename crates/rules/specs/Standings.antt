@@ -39,8 +39,8 @@ more k vs [] = []
 more zero vs (own ∷ others) = (own ++ vs) ∷ others
 more (suc k) vs (other ∷ rest) = other ∷ more k vs rest
 
--- "Its vertices enter the tree; its extensions are metal but by themselves no starting point, and a pin under one stays unjoined."
--- "A pin is joined if it is the net's first or an earlier record of the net ends there."
+-- "Its vertices enter the tree; its extensions are metal but by themselves no starting point, and a pin under
+-- one stays unjoined." "A pin is joined if it is the net's first or an earlier record of the net ends there."
 unfoldable pub joinedBy : (k : ℕ) → Standing → (end : ℕ) → Sum → Standing
 joinedBy k s end sum =
     record {

@@ -13,7 +13,8 @@ use Rattle.rules.specs.Segments.{Kind, along, down, up, kindOf, fresh, P
 use Rattle.rules.specs.Prices.{Tech, lineOf, entering}
 use Rattle.rules.specs.Overheads.{Overhead, nothing, lengthened, penalised, forbidden, overheadOf}
 
--- what a legal move did: where it led, the price of entering, and the overhead with what it laid and the steps that were missing
+-- what a legal move did: where it led, the price of entering, and the overhead with what it laid and the
+-- steps that were missing
 pub record Made : Type 0 where
   pub next : Place
   pub enter : ℕ

@@ -45,7 +45,8 @@ pub data Entered : Type 0 where
 unfoldable pub ifThere : Bool → ℕ → Entered
 ifThere there v = cond there (at v) outside
 
--- "A move's number decides what it changes: 0 low and 1 high step along the layer's track, 2 goes down a layer, 3 up. It stays in the grid."
+-- "A move's number decides what it changes: 0 low and 1 high step along the layer's track, 2 goes down a
+-- layer, 3 up. It stays in the grid."
 unfoldable pub entered : Grid → (v move : ℕ) → Entered
 entered g v zero = ifThere (ltb 0 (trackIndex g v)) (v - strideOf g (layerOf g v))
 entered g v (suc zero) = ifThere (ltb (suc (trackIndex g v)) (trackLength g v)) (v + strideOf g (layerOf g v))

@@ -52,7 +52,8 @@ boxesOf k [] = []
 boxesOf zero (net ∷ nets) = net .boxes
 boxesOf (suc k) (net ∷ nets) = boxesOf k nets
 
--- "It may not enter an obstacle or another net's pin. A vertex is taken when another net's metal, extensions included, covers it."
+-- "It may not enter an obstacle or another net's pin. A vertex is taken when another net's metal, extensions
+-- included, covers it."
 unfoldable pub viewOf : Job → (k : ℕ) → (metal : List (List ℕ)) → View
 viewOf j k metal =
     let g = j .grid in

@@ -27,8 +27,9 @@ system t view unjoined =
 unfoldable pub startAt : ℕ → Place
 startAt v = record { vertex = v; segment = paid }
 
--- "A rival of a record is any list of moves, one or more, that starts at a vertex of that tree, paid with no direction, is legal move by
--- move against that metal, and enters with its last move an unjoined pin of the net; one that enters such a pin on its way counts too."
+-- "A rival of a record is any list of moves, one or more, that starts at a vertex of that tree, paid with no
+-- direction, is legal move by move against that metal, and enters with its last move an unjoined pin of the
+-- net; one that enters such a pin on its way counts too."
 pub record Rival (t : Tech) (view : View) (tree unjoined : List ℕ) (start : ℕ) (moves : List ℕ) (cost : ℕ) : Type 0 where
   pub onTree : member start tree ≡ true
   pub walks : RivalFrom (system t view unjoined) (startAt start) moves cost
@@ -38,7 +39,8 @@ pub record Route (t : Tech) (view : View) (tree unjoined : List ℕ) (start : �
   pub onTree : member start tree ≡ true
   pub walks : RouteFrom (system t view unjoined) (startAt start) moves cost
 
--- the vertices entered in order, the vertices laid, cost, added steps and penalised segments; or that a move is not legal
+-- the vertices entered in order, the vertices laid, cost, added steps and penalised segments; or that a move
+-- is not legal
 pub record Sum : Type 0 where
   pub vertices : List ℕ
   pub laid : List ℕ

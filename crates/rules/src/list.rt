@@ -1,4 +1,5 @@
-// The price list, made once for a job: four numbers for each layer, then two for each byte of a vertex's flags.
+// The price list, made once for a job: four numbers for each layer, then two for each byte of a vertex's
+// flags.
 ghost use mathlib.Core.Path.{_≡_};
 ghost use mathlib.Core.Bool.{cond};
 ghost use Prim.Native.Nat.{_+_, _*_, _<_, _≤_};

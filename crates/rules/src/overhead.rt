@@ -88,8 +88,9 @@ fn side_of(side: usize) -> Direction
     }
 }
 
-// An extension on the first side that has as many clear vertices beyond the vertex as are missing, or the area penalty. The first vertex that isn't
-// clear stops the count of its side; a track that ends before needs no count.
+// An extension on the first side that has as many clear vertices beyond the vertex as are missing, or the
+// area penalty. The first vertex that isn't clear stops the count of its side; a track that ends before needs
+// no count.
 fn lengthened(
     grid: Grid,
     area: usize,
@@ -130,7 +131,8 @@ fn lengthened(
     otherwise(area)
 }
 
-// A fresh segment tries high, then low; a running one its direction, for what its length lacks. A paid segment owes nothing.
+// A fresh segment tries high, then low; a running one its direction, for what its length lacks. A paid
+// segment owes nothing.
 pub fn overhead_of(
     grid: Grid,
     prices: &[usize; 48],

@@ -12,7 +12,8 @@ use job::groups::Layer;
 use job::layers::Layers;
 use job::penalty::Penalty;
 
-// What a job says of its layers: the grid, the layer lines with the largest M, and the fields of the two penalties.
+// What a job says of its layers: the grid, the layer lines with the largest M, and the fields of the two
+// penalties.
 pub struct Tech {
     pub grid: Grid,
     pub layers: Layers,
@@ -64,7 +65,8 @@ pub fn base_price(prices: &[usize; 48], layer: usize, kind: Kind) -> usize
     }
 }
 
-// What a vertex's byte of flags adds to that: the guide penalty and the short penalty, closed where either is.
+// What a vertex's byte of flags adds to that: the guide penalty and the short penalty, closed where either
+// is.
 pub fn extra_of(prices: &[usize; 48], byte: u8) -> Penalty
     requires { ⌜ SmallExtra (now prices) byte ⌝ }
     ensures { λ r. ⌜ costOf r ≡ extraIn (now (prices .entry)) byte ⌝ }

@@ -45,7 +45,8 @@ pub enum Entry {
     Open(usize, usize),
 }
 
-// A move stays in the grid, it enters no obstacle and no other net's pin, and no penalty of entering is closed.
+// A move stays in the grid, it enters no obstacle and no other net's pin, and no penalty of entering is
+// closed.
 pub fn entry_of(
     grid: Grid,
     prices: &[usize; 48],
@@ -70,7 +71,8 @@ pub fn entry_of(
     )
 }
 
-// What a legal move did: where it led, the price of entering, and the overhead with its extension and the steps that were missing.
+// What a legal move did: where it led, the price of entering, and the overhead with its extension and the
+// steps that were missing.
 pub struct Made {
     pub next: Place,
     pub enter: usize,
@@ -200,7 +202,8 @@ fn by_segment(
     step_along(line.least, segment, toward, into, enter)
 }
 
-// A move is legal if nothing forbids it: its vertex can be entered, and the segment allows it. The place's vertex comes with its coordinates.
+// A move is legal if nothing forbids it: its vertex can be entered, and the segment allows it. The place's
+// vertex comes with its coordinates.
 pub fn step_from(
     grid: Grid,
     prices: &[usize; 48],

@@ -81,7 +81,8 @@ pub enum Kind {
     Up,
 }
 
-// 0 low and 1 high step along the layer's track, 2 goes down a layer, 3 up. A greater number is no move's: it enters nothing.
+// 0 low and 1 high step along the layer's track, 2 goes down a layer, 3 up. A greater number is no move's: it
+// enters nothing.
 pub fn kind_of(number: usize) -> Kind
     ensures { λ r. ⌜ kindBy r ≡ kindOf number ⌝ }
 {
@@ -93,7 +94,8 @@ pub fn kind_of(number: usize) -> Kind
     }
 }
 
-// The vertex that a move enters, from a vertex with its coordinates: the move's number and the layer's direction decide what changes.
+// The vertex that a move enters, from a vertex with its coordinates: the move's number and the layer's
+// direction decide what changes.
 pub fn entered_by(grid: Grid, v: usize, from: Vertex, number: usize) -> Entered
     requires { ⌜ (OnGrid grid v) × (from ≡ vertexStruct (vertexBy (gridOf grid) v)) ⌝ }
     ensures { λ r. ⌜ r ≡ enteredOf (entered (gridOf grid) v number) ⌝ }

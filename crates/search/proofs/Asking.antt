@@ -1,15 +1,20 @@
 -- What the code asks of a place and of a move.
---     largest-fits, largest-asked     the largest M is at most 15; where there is a place, from 1
---     item-good, item-code, item-bound     the place of a number is good, and has that number
---     vertex-here, vertex-on          the vertex of a place is one of the bytes, and of the grid
---     segment-short, code-asked       what its segment and its number are asked for
---     code-made, code-here            the number that the code makes; it is in the work slice
---     next-left, next-small           what is left from the place that a move leads to; it is small
---     start-asked, -made, -below, -left     the place where a join starts
---     settled-here, -short, -fields   what is asked of a settled place
---     Led, led, led-not               what a legal move from it leads to; one that is not legal is blocked
---     fresh-asked, -made, -here, -left, -small     the fresh place that a via enters
---     closed-owed, price-small, price-owed, field-small     the field of what a via owes
+--     largest-fits, largest-asked                          the largest M is at most 15; where there is a
+--                                                          place, from 1
+--     item-good, item-code, item-bound                     the place of a number is good, and has that number
+--     vertex-here, vertex-on                               the vertex of a place is one of the bytes, and of
+--                                                          the grid
+--     segment-short, code-asked                            what its segment and its number are asked for
+--     code-made, code-here                                 the number that the code makes; it is in the work
+--                                                          slice
+--     next-left, next-small                                what is left from the place that a move leads to;
+--                                                          it is small
+--     start-asked, -made, -below, -left                    the place where a join starts
+--     settled-here, -short, -fields                        what is asked of a settled place
+--     Led, led, led-not                                    what a legal move from it leads to; one that is
+--                                                          not legal is blocked
+--     fresh-asked, -made, -here, -left, -small             the fresh place that a via enters
+--     closed-owed, price-small, price-owed, field-small    the field of what a via owes
 use Prim.Native.Nat.{ℕ, _+_, _^_, _≤_, _<_}
 use mathlib.Core.Path.{_≡_, refl, sym, ap, _∙_}
 use mathlib.Core.List.{List}

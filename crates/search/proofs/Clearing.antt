@@ -1,11 +1,14 @@
 -- What a search has touched is made zero: one item after the other, with the word that names it.
---     Named, Clearing                                        words and the items that they name, of which so many are zero
+--     Named, Clearing
+--         words and the items that they name, of which so many are zero
 --     clearing-begun                                         before the first
---     clearing-read, clearing-fits, clearing-on              the next word is as found and in the slice; one more is zero
+--     clearing-read, clearing-fits, clearing-on
+--         the next word is as found and in the slice; one more is zero
 --     heap-named, heap-read, heap-cleared                    the words of the heap
 --     list-named, list-read, list-cleared                    the words of the list
 --     cleared-listed                                         with the heap cleared the list is as it was
---     cleared-bare, cleared-kept                             with both cleared all is zero, and what is past them is as found
+--     cleared-bare, cleared-kept
+--         with both cleared all is zero, and what is past them is as found
 use Prim.Native.Nat.{ℕ, _+_, _-_, _≤_, _<_}
 use mathlib.Core.Path.{_≡_, refl, sym, ap, _∙_}
 use mathlib.Core.List.{List}

@@ -1,9 +1,9 @@
 -- The moves of cheapest joins, in the code's words.
---     lead-stopped, lead-goal                       whether a move leads to a goal at the best cost
---     lead-unmarked, lead-mark                      or on to a mark
---     Untried, untried-begun, -on, -skip            so far no move does
---     untried-here, untried-none                    the first that does; none does
-use Prim.Native.Nat.{ℕ, zero, suc, _+_, _-_, _*_, _/_, _%_, _≤_, _<_}
+--     lead-stopped, lead-goal               whether a move leads to a goal at the best cost
+--     lead-bare, lead-led                   or on to a lead
+--     Untried, untried-begun, -on, -skip    so far no move does
+--     untried-here, untried-none            the first that does; none does
+use Prim.Native.Nat.{ℕ, zero, suc, _+_, _*_, _/_, _%_, _≤_, _<_}
 use mathlib.Core.Path.{_≡_, refl, sym, _∙_}
 use mathlib.Core.List.{List}
 use mathlib.Core.Bool.{Bool, true, false, cond}
@@ -14,7 +14,7 @@ use lib.Dec.{eqb}
 use borrow.Author.Tests.{eq-eqb, ne-eqb}
 use Rattle.paths.specs.Systems.{Step, blocked, to}
 use Rattle.paths.specs.Distances.{isCost, lowestFrom}
-use Rattle.paths.specs.Marks.{isLead, lowestLead}
+use Rattle.paths.specs.Leads.{isLead, lowestLead}
 use Rattle.paths.proofs.Lowest.{lowest-next, lowest-is}
 use Rattle.rules.specs.Views.{View}
 use Rattle.rules.specs.Segments.{Place}
@@ -22,18 +22,18 @@ use Rattle.rules.specs.Prices.{Tech}
 use Rattle.rules.specs.Steps.{step, priced}
 use Rattle.rules.specs.Places.{placeCode, entryCost}
 use Rattle.heap.specs.Heaps.{keyOf, slotOf}
-use Rattle.search.specs.Fronts.{leftAt, costIn, costs, reachedBy, markBy}
+use Rattle.search.specs.Fronts.{leftAt, costIn, costs, reachedBy, ledBy}
 use Rattle.search.specs.Leads.{leadBy, lowestBy, OnlyMoves}
 use Rattle.search.specs.Bits.{HasMove}
 use Rattle.search.proofs.Costing.{cost-in, in-cost}
 
 -- ---- one move
 
--- an entry, without the move that it tells, is that of a mark at a cost just where it has both
-mark-told : (left word cost : ℕ) → eqb (word / 4) ((16 * cost + left + 1) * 262144 + 262142)
+-- an entry, without the move that it tells, is that of a lead at a cost just where it has both
+led-told : (left word cost : ℕ) → eqb (word / 4) ((16 * cost + left + 1) * 262144 + 262142)
     ≡ cond (eqb (slotOf word / 4) 262142) (isCost cost (entryCost (costIn left (keyOf word)))) false
 unfolding slotOf keyOf isCost entryCost
-mark-told left word cost = by (ℕ-discrete (word % 1048576 / 4) 262142) (costIn left (word / 1048576)) refl
+led-told left word cost = by (ℕ-discrete (word % 1048576 / 4) 262142) (costIn left (word / 1048576)) refl
   where
     by : Dec (word % 1048576 / 4 ≡ 262142) → (told : ℕ) → costIn left (word / 1048576) ≡ told
         → eqb (word / 4) ((16 * cost + left + 1) * 262144 + 262142) ≡ cond (eqb (word % 1048576 / 4) 262142) (isCost cost (entryCost (costIn left (word / 1048576)))) false
@@ -63,19 +63,19 @@ module _ (t : Tech) (view : View) (spots bounds work : List ℕ) (best e : ℕ) 
     unfolding isLead
     lead-goal goal = rw (is, eq-eqb (getD spots (q .vertex) 0) 2 goal) refl
 
-    -- elsewhere the entry has a mark
-    pub lead-unmarked : (getD spots (q .vertex) 0 ≡ 2 → ⊥) → {code : ℕ} → code ≡ placeCode t q → (getD work code 0 % 1048576 / 4 ≡ 262142 → ⊥)
+    -- elsewhere the entry has a lead
+    pub lead-bare : (getD spots (q .vertex) 0 ≡ 2 → ⊥) → {code : ℕ} → code ≡ placeCode t q → (getD work code 0 % 1048576 / 4 ≡ 262142 → ⊥)
         → false ≡ leadBy t view spots bounds work best e move
-    unfolding isLead markBy slotOf
-    lead-unmarked other {code} at bare =
+    unfolding isLead ledBy slotOf
+    lead-bare other {code} at bare =
         rw (is, ne-eqb (getD spots (q .vertex) 0) 2 other, ne-eqb (getD work (placeCode t q) 0 % 1048576 / 4) 262142 (rw at at bare)) refl
 
-    -- and is that of a mark at the distance
-    pub lead-mark : (getD spots (q .vertex) 0 ≡ 2 → ⊥) → {code left : ℕ} → code ≡ placeCode t q → left ≡ leftAt t bounds (placeCode t q)
+    -- and is that of a lead at the distance
+    pub lead-led : (getD spots (q .vertex) 0 ≡ 2 → ⊥) → {code left : ℕ} → code ≡ placeCode t q → left ≡ leftAt t bounds (placeCode t q)
         → eqb (getD work code 0 / 4) ((16 * (e + c) + left + 1) * 262144 + 262142) ≡ leadBy t view spots bounds work best e move
-    unfolding isLead reachedBy costs markBy
-    lead-mark other at rest =
-        rw (is, ne-eqb (getD spots (q .vertex) 0) 2 other, at, rest) (mark-told (leftAt t bounds (placeCode t q)) (getD work (placeCode t q) 0) (e + c))
+    unfolding isLead reachedBy costs ledBy
+    lead-led other at rest =
+        rw (is, ne-eqb (getD spots (q .vertex) 0) 2 other, at, rest) (led-told (leftAt t bounds (placeCode t q)) (getD work (placeCode t q) 0) (e + c))
 
 -- ---- the lowest
 

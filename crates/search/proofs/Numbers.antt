@@ -1,9 +1,11 @@
 -- Places by number and back.
---     running-code, toward-code              a segment's number by its direction
---     toward-small, running-good, vertex-fits   the numbers fit a word
---     at-fresh, at-running, at-paid, at-low, at-high   the segment of a number, by the number
---     numbered                               a number below 2(M + 1) is that of its segment, which is good
---     place-good, code-place                 a number of a place is that of its place, which is good
+--     running-code, toward-code                         a segment's number by its direction
+--     toward-small, running-good, vertex-fits           the numbers fit a word
+--     at-fresh, at-running, at-paid, at-low, at-high    the segment of a number, by the number
+--     numbered                                          a number below 2(M + 1) is that of its segment, which
+--                                                       is good
+--     place-good, code-place                            a number of a place is that of its place, which is
+--                                                       good
 use Prim.Native.Nat.{ℕ, _+_, _-_, _*_, _/_, _%_, _≤_, _<_}
 use mathlib.Core.Path.{_≡_, refl, ap, _∙_}
 use mathlib.Core.Bool.{Bool, true, false, cond}

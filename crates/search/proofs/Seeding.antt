@@ -1,9 +1,9 @@
 -- The tree put into the heap, vertex by vertex.
---     none-done                before any place is settled none is done
---     seeding-begun, -next, -skip, -done      so far
---     Flagged, flagged-begun, -on, -none      whether a block of bytes has one that is not 0
---     Blocked, blocked-begun, -on, -long, -done      the vertices of a block
-use Prim.Native.Nat.{ℕ, suc, _+_, _-_, _%_, _≤_, _<_, min}
+--     none-done                                    before any place is settled none is done
+--     seeding-begun, -next, -skip, -done           so far
+--     Flagged, flagged-begun, -on, -none           whether a block of bytes has one that is not 0
+--     Blocked, blocked-begun, -on, -long, -done    the vertices of a block
+use Prim.Native.Nat.{ℕ, suc, _+_, _%_, _≤_, _<_, min}
 use mathlib.Core.Path.{_≡_, refl, sym, ap, _∙_}
 use mathlib.Core.Logic.{_⊎_, inl, inr}
 use mathlib.Core.List.{List}
@@ -27,8 +27,7 @@ use Rattle.search.specs.Fronts.{leftAt}
 use Rattle.search.specs.Lists.{Done, Laid}
 use Rattle.search.specs.Spreads.{keys, Seeded, Seeding}
 use Rattle.search.proofs.Laying.{laid-none, laid-lower}
-use Rattle.search.proofs.Spreading.{Eased}
-use Rattle.search.proofs.Turning.{eased-by}
+use Rattle.search.proofs.Easing.{Eased, eased-by}
 
 -- before any place is settled none is done
 pub none-done : {n size last : ℕ} {work : List ℕ} → Laid n size 0 last work → (c : ℕ) → c < n → Done n work c → ⊥

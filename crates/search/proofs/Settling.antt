@@ -1,11 +1,11 @@
 -- Places settled one after the other.
---     between-begun       before the first
---     turn-begun          one is taken from the heap
---     between-on          its moves are tried
---     least-asked, least-some      the least open place
---     removed-turn, removed-kept, removed-room      a place taken, in the code's words
---     ended-none, ended-best       the search stops
---     ended-rest, ended-forward    what it has found
+--     between-begun                               before the first
+--     turn-begun                                  one is taken from the heap
+--     between-on                                  its moves are tried
+--     least-asked, least-some                     the least open place
+--     removed-turn, removed-kept, removed-room    a place taken, in the code's words
+--     ended-none, ended-best                      the search stops
+--     ended-rest, ended-forward                   what it has found
 use Prim.Native.Nat.{ℕ, suc, _+_, _-_, _*_, _/_, _^_, _≤_, _<_}
 use mathlib.Core.Path.{_≡_, sym, subst, _∙_}
 use mathlib.Core.Logic.{_⊎_, inl, inr}
@@ -31,8 +31,10 @@ use Rattle.search.specs.Lists.{Done, Laid}
 use Rattle.search.specs.Spreads.{keys, Seeded, Turn, Between, Ended}
 use Rattle.search.proofs.Numbers.{place-good, code-place}
 use Rattle.search.proofs.Costing.{costs-told, told-costs, cost-touched, same-costs, left-place}
-use Rattle.search.proofs.Laying.{laid-room, take-keys, done-take, item-done, take-done, take-slots, laid-take}
-use Rattle.search.proofs.Spreading.{spread-begun, spread-all, spread-take, spread-forward}
+use Rattle.search.proofs.Laying.{laid-room}
+use Rattle.search.proofs.Listing.{take-keys, done-take, item-done, take-done, take-slots, laid-take}
+use Rattle.search.proofs.Spreading.{spread-begun, spread-all, spread-take}
+use Rattle.search.proofs.Finding.{spread-forward}
 use Rattle.search.proofs.Seeding.{none-done}
 
 module _ {t : Tech} (view : View) (spots bounds : List ℕ) (fine : GoodTech t) where

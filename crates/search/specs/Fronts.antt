@@ -1,14 +1,15 @@
 -- What the entries of the work slice tell of a search from the tree.
---     systemBy            places and moves, with an unjoined pin told by its byte
---     startsBy            the vertices of the tree, told by their bytes
---     leftAt, costIn      what is left at least from the place with a number, times 15; the cost that a key tells
---     costs, reachedBy    the cost to each place that has an entry
---     atLeast             what is left at least from a place
---     markBy, markedLead, markSlot     whether a place has a mark, the move that it tells, and the slot of such a mark
---     noGoal, bestBy      the cost of the cheapest goal found
---     dearestMove         the most that a move can cost
+--     systemBy                   places and moves, with an unjoined pin told by its byte
+--     startsBy                   the vertices of the tree, told by their bytes
+--     leftAt, costIn             what is left at least from the place with a number, times 15; the cost that
+--                                a key tells
+--     costs, reachedBy           the cost to each place that has an entry
+--     atLeast                    what is left at least from a place
+--     ledBy, leadAt, leadSlot    whether a place has a lead, the move that it tells, and the slot of such a
+--                                lead
+--     noGoal, bestBy             the cost of the cheapest goal found
+--     dearestMove                the most that a move can cost
 use Prim.Native.Nat.{ℕ, zero, suc, _+_, _-_, _*_, _/_, _%_}
-use mathlib.Core.Path.{_≡_}
 use mathlib.Core.List.{List}
 use mathlib.Core.Bool.{Bool, cond}
 use lib.ListN.{getD}
@@ -62,17 +63,18 @@ reachedBy t bounds work p = entryCost (costs t bounds work (placeCode t p))
 unfoldable pub atLeast : Tech → (bounds : List ℕ) → Place → ℕ
 atLeast t bounds p = boundAt (t .grid) bounds (p .vertex) / 16 + 1
 
--- the slot of a mark that tells a move: no place of the heap has such a slot, and no settled place without a mark
-abbrev pub markSlot : (lead : ℕ) → ℕ
-markSlot lead = 4 * 262142 + lead
+-- the slot of a lead that tells a move: no seat of the heap has such a number, and no settled place without a
+-- lead
+abbrev pub leadSlot : (lead : ℕ) → ℕ
+leadSlot lead = 4 * 262142 + lead
 
--- whether a place has a mark
-unfoldable pub markBy : Tech → (work : List ℕ) → Place → Bool
-markBy t work p = eqb (slotOf (getD work (placeCode t p) 0) / 4) 262142
+-- whether a place has a lead
+unfoldable pub ledBy : Tech → (work : List ℕ) → Place → Bool
+ledBy t work p = eqb (slotOf (getD work (placeCode t p) 0) / 4) 262142
 
--- the move that its mark tells
-unfoldable pub markedLead : Tech → (work : List ℕ) → Place → ℕ
-markedLead t work p = slotOf (getD work (placeCode t p) 0) % 4
+-- the move that its lead tells
+unfoldable pub leadAt : Tech → (work : List ℕ) → Place → ℕ
+leadAt t work p = slotOf (getD work (placeCode t p) 0) % 4
 
 -- the cost that stands for no goal: every goal costs less
 abbrev pub noGoal : ℕ

@@ -1,13 +1,14 @@
 -- What the entries have come to while places are settled.
---     Entered        a move from a settled place into a goal, at the best cost
---     Spread         every entry is the cost of a walk; the moves of settled places lower no entry, and enter no goal for less than the best cost
---     NoGoals        no place with a key lies on an unjoined pin
---     Seeded, Seeding     the same before any place is settled, while the tree is put into the heap
---     Told           each key tells a cost
---     Turn           while the moves of a place are tried, after so many
---     Between        after all moves of the settled places
---     Ended          when the search stops
---     Reach          what trying one move does
+--     Entered            a move from a settled place into a goal, at the best cost
+--     Spread             every entry is the cost of a walk; the moves of settled places lower no entry, and
+--                        enter no goal for less than the best cost
+--     NoGoals            no place with a key lies on an unjoined pin
+--     Seeded, Seeding    the same before any place is settled, while the tree is put into the heap
+--     Told               each key tells a cost
+--     Turn               while the moves of a place are tried, after so many
+--     Between            after all moves of the settled places
+--     Ended              when the search stops
+--     Reach              what trying one move does
 use Prim.Native.Nat.{ℕ, suc, _+_, _-_, _*_, _≤_, _<_, min}
 use mathlib.Core.Path.{_≡_}
 use mathlib.Core.List.{List}
@@ -90,7 +91,7 @@ module _ (t : Tech) (view : View) (spots : List ℕ) where
     abbrev Told : (work : List ℕ) → Type 0
     Told work = (c : ℕ) → c < places t → 0 < keys work c → 0 < costs t bounds work c
 
-    -- the place that is being settled has the greatest key of the settled ones; none of these has a mark
+    -- the place that is being settled has the greatest key of the settled ones; none of these has a lead
     pub record Turn (near work : List ℕ) (size settled best item distance number : ℕ) : Type 0 where
       pub laid : Laid (places t) size settled (suc (16 * distance + leftAt t bounds item)) work
       pub told : Told work
@@ -116,7 +117,8 @@ module _ (t : Tech) (view : View) (spots : List ℕ) where
       pub between : Between near work size settled best
       pub rest : (c : ℕ) → c < places t → In work (places t) c → 16 * best < keys work c
 
-    -- what trying one move does, to the heap's size, the best cost, the bytes of moves that enter a goal and the work slice
+    -- what trying one move does, to the heap's size, the best cost, the bytes of moves that enter a goal and
+    -- the work slice
     pub record Reach (p : Place) (distance number : ℕ) (move : Step Place) (size best : ℕ) (near work : List ℕ) (size′ best′ : ℕ) (near′ work′ : List ℕ) : Type 0 where
       pub stopped : move ≡ blocked → (size′ ≡ size) × (best′ ≡ best) × (near′ ≡ near) × (work′ ≡ work)
       pub enters : {c : ℕ} {q : Place} → move ≡ to c q → eqb (getD spots (q .vertex) 0) 2 ≡ true

@@ -2,7 +2,8 @@
 --     AtPlace                what the code holds of a settled place
 --     triedOf                where a move leads, and its price
 --     OwedFor                what a via owes, if it was asked
---     freshCode, Passed      the number of a vertex's fresh place, and that a place has a key that a move at a price does not lower
+--     freshCode, Passed      the number of a vertex's fresh place, and that a place has a key that a move at
+--                            a price does not lower
 --     Attempted              a move that was tried, or passed over
 use Prim.Native.Nat.{ℕ, suc, _+_, _*_, _≤_, _<_}
 use mathlib.Core.Path.{_≡_}

@@ -1,4 +1,5 @@
-// Makes zero what a search has touched: the entries of the heap's places and its words, then the settled places and their list.
+// Makes zero what a search has touched: the entries of the places in the heap and its words, then the settled
+// places and their list.
 ghost use mathlib.Core.Path.{_≡_};
 ghost use Prim.Native.Nat.{ℕ, _+_, _-_, _≤_, _<_};
 ghost use lib.ListN.{length, getD, set};
@@ -16,7 +17,7 @@ fn forget(work: &mut [u64], item: usize, word: usize)
     work[word] = 0;
 }
 
-// The entries of the heap's places, and its words.
+// The entries of the places in the heap, and its words.
 fn clear_heap(work: &mut [u64], n: usize, size: usize)
     requires { ⌜ Seated n size (now work) ⌝ }
     ensures { λ _. ⌜ ((i : ℕ) → i < size → getD (now (work .exit)) (itemAt (now (work .entry)) n i) 0 ≡ 0)

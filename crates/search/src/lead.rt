@@ -1,4 +1,5 @@
-// The moves of cheapest joins: each leads to an unjoined pin at the best cost, or on to a mark at its exact distance.
+// The moves of cheapest joins: each leads to an unjoined pin at the best cost, or on to a lead at its exact
+// distance.
 ghost use mathlib.Core.Path.{_≡_};
 ghost use Prim.Native.Nat.{_%_, _≤_, _<_};
 ghost use lib.ListN.{length, getD};
@@ -20,11 +21,11 @@ use rules::step::Stepped;
 use rules::step::step_from;
 use tree::UNJOINED;
 
-// A quarter of the slots of places with a mark: the rest is the lowest move that leads on. No place of the heap has such a number, and no settled
-// place without a mark.
-pub const MARKED: u64 = 262142;
+// A quarter of the slots of places with a lead: the rest is the lowest move that leads on. No seat of the
+// heap has such a number, and no settled place without a lead.
+pub const LED: u64 = 262142;
 
-// The move that the mark of a place tells.
+// The move that the lead of a place tells.
 pub fn lead_at(work: &[u64], code: usize) -> usize
     requires { ⌜ code < length (now work) ⌝ }
     ensures { λ r. ⌜ r ≡ slotOf (getD (now (work .entry)) code 0) % 4 ⌝ }
@@ -48,9 +49,10 @@ fn leads(
     ensures { λ r. ⌜ r ≡ leadBy (techBy tech) (seenBy tech (now (seen .entry))) (now (spots .entry)) (now (bounds .entry)) (now (work .entry)) best (settled .distance)
         (priced (step (techBy tech) (seenBy tech (now (seen .entry))) (placeOf (settled .place)) number)) ⌝ }
 {
+    let grid = tech.grid;
     let place = settled.place;
     let from = settled.vertex;
-    let Stepped::Legal(made) = step_from(tech.grid, prices, seen, place, from, number) else {
+    let Stepped::Legal(made) = step_from(grid, prices, seen, place, from, number) else {
         return false;
     };
     let next = made.next;
@@ -61,11 +63,11 @@ fn leads(
     }
     let code = code_of(tech.largest, next);
     let word = work[code];
-    if word % SLOTS / 4 != MARKED {
+    if word % SLOTS / 4 != LED {
         return false;
     }
-    let left = bound_entered(bounds, tech.grid, from, number);
-    word / 4 == (16 * cost + left + 1) * (SLOTS / 4) + MARKED
+    let left = bound_entered(bounds, grid, from, number);
+    word / 4 == (16 * cost + left + 1) * (SLOTS / 4) + LED
 }
 
 // The lowest move of a byte that does; 4 where none does. No other move may lead so.

@@ -8,7 +8,8 @@ use rules::segment::Segment;
 use rules::segment::move_toward;
 use rules::step::Place;
 
-// Fresh is 0; running low and high at length n are 2n - 1 and 2n; with M the largest, paid is 2M - 1, toward low 2M, toward high 2M + 1.
+// Fresh is 0; running low and high at length n are 2n - 1 and 2n; with M the largest, paid is 2M - 1, toward
+// low 2M, toward high 2M + 1.
 fn segment_code(largest: usize, segment: Segment) -> usize
     requires { ⌜ (1 ≤ largest) × (largest ≤ 15) × GoodSegment largest (segmentOf segment) ⌝ }
     ensures { λ r. ⌜ r ≡ segmentCode largest (segmentOf segment) ⌝ }

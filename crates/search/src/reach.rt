@@ -1,6 +1,6 @@
 // The moves of a place that is settled: each may lower the entry of another place, or the best cost.
 ghost use mathlib.Core.Path.{_≡_};
-ghost use Prim.Native.Nat.{ℕ, _+_, _-_, _*_, _≤_, _<_, min};
+ghost use Prim.Native.Nat.{ℕ, _+_, _-_, _*_, _<_, min};
 ghost use Rattle.paths.specs.Systems.{to};
 ghost use Rattle.heap.specs.Heaps.{Heaped};
 ghost use Rattle.metal.specs.Codes.{Beyond};

@@ -2,8 +2,8 @@
 ghost use mathlib.Core.Path.{_≡_};
 ghost use mathlib.Core.List.{List};
 ghost use mathlib.Core.Bool.{false};
-ghost use Prim.Native.Nat.{ℕ, _+_, _-_, _≤_, _<_, min};
-ghost use lib.ListN.{length, getD};
+ghost use Prim.Native.Nat.{ℕ, _+_, _≤_, _<_, min};
+ghost use lib.ListN.{getD};
 ghost use Rattle.job.specs.Grid.{vertices};
 ghost use Rattle.job.specs.Structs.{gridOf};
 ghost use Rattle.heap.specs.Heaps.{Heaped, Lowered};

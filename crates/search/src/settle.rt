@@ -1,7 +1,8 @@
-// The search: places are settled in the order of their cost with what is left at least, until no open one is below the cheapest goal found.
+// The search: places are settled in the order of their cost with what is left at least, until no open one is
+// below the cheapest goal found.
 ghost use mathlib.Core.Path.{_≡_};
 ghost use mathlib.Core.List.{List};
-ghost use Prim.Native.Nat.{ℕ, _+_, _-_, _≤_, _<_};
+ghost use Prim.Native.Nat.{ℕ, _+_, _-_, _<_};
 ghost use lib.ListN.{length, set};
 ghost use Rattle.heap.specs.Heaps.{Heaped, Removed};
 ghost use Rattle.metal.specs.Codes.{Beyond};

@@ -30,11 +30,12 @@ use rules::step::Entry;
 use rules::step::Place;
 use rules::step::entry_of;
 
-// What a via owes does not depend on the via: it is asked once for a settled place, and held as the field of a penalty. No field is
-// this number, which stands before it is asked.
+// What a via owes does not depend on the via: it is asked once for a settled place, and held as the field of
+// a penalty. No field is this number, which stands before it is asked.
 pub const UNASKED: usize = 65_536;
 
-// Where a move leads, and its price with the overhead; or that it leads nowhere, or would lower nothing there.
+// Where a move leads, and its price with the overhead; or that it leads nowhere, or would lower nothing
+// there.
 pub enum Tried {
     Stopped,
     To(Place, usize),

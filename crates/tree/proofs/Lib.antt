@@ -1,5 +1,5 @@
 -- The laws of the tree's bytes.
 --     Turns     a turn of each loop over pins
---     Marked    what the bytes tell after pins and vertices are put
+--     Spots     what the bytes tell after pins and vertices are put
 pub mod Turns
-pub mod Marked
+pub mod Spots

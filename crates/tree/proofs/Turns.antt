@@ -4,15 +4,14 @@
 --     some-found, some-turn, some-done     looking for an unjoined one
 --     begun-some, begun-none               the bytes before the first join
 use Prim.Native.Nat.{ℕ, zero, suc, _≤_, _<_}
-use mathlib.Core.Path.{_≡_, refl, sym, ap, _∙_}
+use mathlib.Core.Path.{_≡_, refl, ap, _∙_}
 use mathlib.Core.List.{List, [], _∷_}
-use mathlib.Core.Bool.{Bool, true, false}
-use native.Mathlib.Omega.{arith}
-use native.Mathlib.Nat.{not-suc-le-zero, le-of-suc-le-suc}
+use mathlib.Core.Bool.{true, false}
+use native.Mathlib.Nat.{not-suc-le-zero}
 use lib.ListN.{length, getD, set, take, drop, drop-of-length-le}
 use lib.Seq.{length-take-le, drop-cons, getD-take}
 use lib.Dec.{eqb}
-use Rattle.job.specs.Lists.{any, All}
+use Rattle.job.specs.Lists.{any}
 use Rattle.rules.proofs.Standing.{all-at}
 use Rattle.tree.specs.Spots.{Pins, putAll, begunSpots, someUnjoined}
 

@@ -30,7 +30,7 @@ boxes-behind b rest from (suc n) = λ i. record {
 } ∷ boxes-behind b rest (from + 6) n i
   where
     at : (k : ℕ) → getD (boxNumbers b ++ rest) (from + 6 + k) 0 ≡ getD rest (from + k) 0
-    at k = let place : from + 6 + k ≡ from + k + 6 = omega arith in rw place (number-behind b rest (from + k))
+    at k = let position : from + 6 + k ≡ from + k + 6 = omega arith in rw position (number-behind b rest (from + k))
 
 -- six numbers each
 boxes-length : (bs : List Box) → length (flatMap boxNumbers bs) ≡ 6 * length bs

@@ -1,7 +1,10 @@
 -- Another net's metal, told by the map's code.
---     code-none, code-many, code-more, code-some     the code where no, several, more, some nets' metal covers a vertex
---     taken-code                                     a vertex is taken where its code is neither 0 nor the net's own
---     holdsAt, code-own                              whether a net's list holds a vertex: it does where the code is the net's own
+--     code-none, code-many, code-more, code-some     the code where no, several, more, some nets' metal
+--                                                    covers a vertex
+--     taken-code                                     a vertex is taken where its code is neither 0 nor the
+--                                                    net's own
+--     holdsAt, code-own                              whether a net's list holds a vertex: it does where the
+--                                                    code is the net's own
 use Prim.Native.Nat.{ℕ, zero, suc, _+_, _≤_, _<_}
 use mathlib.Core.Path.{_≡_, refl, sym, ap, _∙_}
 use mathlib.Core.List.{List, [], _∷_}

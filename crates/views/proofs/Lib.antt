@@ -6,7 +6,7 @@
 --     Sights      bytes made in order of the vertices' numbers
 --     Opening     the blocked flag taken off the net's own pins
 --     Codes       another net's metal, told by the map's code
---     Pins        other nets' pins and obstacles, told by the marks
+--     Pins        other nets' pins and obstacles, told by the occupants
 --     Seen        the bytes make the view of the net at hand
 --     Arrays      a net's boxes and pins, read back from the arrays that they are stored in
 mod Guides

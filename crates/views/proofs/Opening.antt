@@ -1,5 +1,6 @@
 -- The bytes of the net's own pins.
---     PinsToOpen, pins-begin, pin-within, pins-turn, pins-end     the loop over the pins: before a turn, the next pin, a turn, after the last
+--     PinsToOpen, pins-begin, pin-within, pins-turn, pins-end
+--         the loop over the pins: before a turn, the next pin, a turn, after the last
 --     opened-at                                                   the byte of a vertex afterwards
 use Prim.Native.Nat.{ℕ, suc, _+_, _-_, _%_, _≤_, _<_}
 use mathlib.Core.Path.{_≡_, refl, sym, _∙_}

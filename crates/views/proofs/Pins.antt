@@ -1,11 +1,11 @@
--- Other nets' pins and obstacles, told by the marks.
---     same-number                  the same vertex, by its number
---     pins-number, nets-number     a vertex among pins, by its number
---     apart-after                  where vertices are distinct, one of the first is none of the rest
---     own-free                     the net's own pins are on no obstacle
---     own-apart                    and no other net has them
---     others-all                   where the net's own pins are left out, another net's pin is any net's
---     blocked-mark                 a vertex is blocked where it is marked and none of the net's own pins
+-- Other nets' pins and obstacles, told by the occupants.
+--     same-number                 the same vertex, by its number
+--     pins-number, nets-number    a vertex among pins, by its number
+--     apart-after                 where vertices are distinct, one of the first is none of the rest
+--     own-free                    the net's own pins are on no obstacle
+--     own-apart                   and no other net has them
+--     others-all                  where the net's own pins are left out, another net's pin is any net's
+--     blocked-occupant            a vertex is blocked where it has an occupant and none of the net's own pins
 use Prim.Native.Nat.{ℕ}
 use mathlib.Core.Path.{_≡_, refl, sym, ap, _∙_}
 use mathlib.Core.List.{List, [], _∷_, _++_, map}
@@ -20,8 +20,8 @@ use Rattle.job.specs.Good.{GoodPin, GoodNet, Distinct, allPins}
 use Rattle.job.specs.Reading.{onObstacle}
 use Rattle.job.proofs.Tests.{nor-holds}
 use Rattle.job.proofs.Grids.{same-eq, same-refl, number-inj}
-use Rattle.marks.specs.Marks.{markOf, Marks}
-use Rattle.marks.proofs.Marking.{any-append}
+use Rattle.occupants.specs.Occupants.{occupantOf, Occupants}
+use Rattle.occupants.proofs.Covering.{any-append}
 use Rattle.reader.proofs.Loaded.{all-one}
 use Rattle.rules.specs.Views.{member, othersHold, pinsOf}
 use Rattle.rules.proofs.Members.{not-both, neither}
@@ -117,26 +117,26 @@ module _ (g : Grid) (obstacles : List Obstacle) (w : Vertex) (on : T (inside g w
 
     -- ---- blocked
 
-    -- a mark that is not 0 tells of an obstacle or a pin
-    mark-some : (a b : Bool) → not (eqb (cond a 1 (cond b 2 0)) 0) ≡ (a || b)
-    mark-some true b = refl
-    mark-some false true = refl
-    mark-some false false = refl
+    -- an occupant that is not 0 tells of an obstacle or a pin
+    occupant-some : (a b : Bool) → not (eqb (cond a 1 (cond b 2 0)) 0) ≡ (a || b)
+    occupant-some true b = refl
+    occupant-some false true = refl
+    occupant-some false false = refl
 
     -- "It may not enter an obstacle or another net's pin."
-    pub blocked-mark : (before : List Net) {marks : List ℕ} → All (GoodNet g obstacles) (with before) → Distinct (allPins (with before))
-        → Marks g obstacles (allPins (with before)) marks
+    pub blocked-occupant : (before : List Net) {occupants : List ℕ} → All (GoodNet g obstacles) (with before) → Distinct (allPins (with before))
+        → Occupants g obstacles (allPins (with before)) occupants
         → (onObstacle g obstacles w || othersHold (length before) (map (pinsOf g) (with before)) number)
-        ≡ (not (member number (pinsOf g net)) && not (eqb (getD marks number 0) 0))
-    unfolding markOf pinsOf
-    blocked-mark before {marks} good d marked = by (member number (pinsOf g net)) refl
+        ≡ (not (member number (pinsOf g net)) && not (eqb (getD occupants number 0) 0))
+    unfolding occupantOf pinsOf
+    blocked-occupant before {occupants} good d occupied = by (member number (pinsOf g net)) refl
       where
         mine : All (GoodPin g obstacles) (net .pins)
         mine = all-one (GoodNet g obstacles) before net after good .goodPins
 
         by : (b : Bool) → member number (pinsOf g net) ≡ b → (onObstacle g obstacles w || othersHold (length before) (map (pinsOf g) (with before)) number)
-            ≡ (not b && not (eqb (getD marks number 0) 0))
+            ≡ (not b && not (eqb (getD occupants number 0) 0))
         by true e = neither _ _ (own-free (net .pins) mine (pins-number (net .pins) mine ∙ e)) (own-apart before good d e)
         by false e =
-            rw (others-all before e, ← nets-number (with before) good, marked .says w on)
-            (sym (mark-some (onObstacle g obstacles w) (any (same w) (allPins (with before)))))
+            rw (others-all before e, ← nets-number (with before) good, occupied .says w on)
+            (sym (occupant-some (onObstacle g obstacles w) (any (same w) (allPins (with before)))))

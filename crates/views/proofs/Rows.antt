@@ -1,7 +1,8 @@
 -- The columns of one row that are found inside the guide.
 --     store-at                                one vertex's byte without the flag
 --     RowAt                                   the row that the code is at
---     RowTo, row-begin, row-turn, row-end     the loop over the columns: before a turn, before the first, a turn, after the last
+--     RowTo, row-begin, row-turn, row-end     the loop over the columns: before a turn, before the first, a
+--                                             turn, after the last
 use Prim.Native.Nat.{ℕ, suc, _+_, _*_, _%_, _≤_, _<_}
 use mathlib.Core.Path.{_≡_, refl, ap, _∙_}
 use mathlib.Core.List.{List}
@@ -42,7 +43,7 @@ store-at g p below seen room v on =
 pub record RowAt (g : Grid) (layer row high first end : ℕ) : Type 0 where
   pub layerOn : layer < g .layers
   pub rowOn : row < g .rows
-  pub place : first ≡ vertexNumber g (record { layer = layer; row = row; column = 0 })
+  pub position : first ≡ vertexNumber g (record { layer = layer; row = row; column = 0 })
   pub ends : end ≤ g .columns
   pub within : (x : ℕ) → x < end → x ≤ high
   pub all : (x : ℕ) → x < g .columns → x ≤ high → x < end
@@ -59,7 +60,7 @@ module _ {g : Grid} {layer row high first end : ℕ} (r : RowAt g layer row high
   -- its number
   at-number : (column : ℕ) → first + column ≡ vertexNumber g (vertexAt column)
   unfolding vertexNumber
-  at-number column = ap (λ (x : ℕ). x + column) (r .place) ∙ plus-none ((layer * g .rows + row) * g .columns)
+  at-number column = ap (λ (x : ℕ). x + column) (r .position) ∙ plus-none ((layer * g .rows + row) * g .columns)
     where
       plus-none : (x : ℕ) → x + 0 + column ≡ x + column
       plus-none x = omega arith

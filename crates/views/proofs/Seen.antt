@@ -23,7 +23,7 @@ use Rattle.views.specs.Sight.{boxesIn, takenCode, seenByte, NetAtHand, s
 use Rattle.views.proofs.Flags.{byte-holds, byte-opened}
 use Rattle.views.proofs.Opening.{opened-at}
 use Rattle.views.proofs.Codes.{taken-code}
-use Rattle.views.proofs.Pins.{blocked-mark}
+use Rattle.views.proofs.Pins.{blocked-occupant}
 
 -- the boxes of the net after some nets
 boxes-of : (before : List Net) (net : Net) (after : List Net) → boxesOf (length before) (before ++ (net ∷ after)) ≡ net .boxes
@@ -47,21 +47,22 @@ agree-and v n {a} {b} h = by (ltb v n) refl
     by true e = h (ltb-true v n e)
     by false e = refl
 
-module _ {j : Job} {k : ℕ} {metal : List (List ℕ)} {marks codes pins boxes : List ℕ} {pinCount boxCount : ℕ}
-    (hand : NetAtHand j k metal marks codes pins boxes pinCount boxCount) (made : List ℕ)
-    (sights : (v : ℕ) → v < vertices (j .grid) → getD made v 0 ≡ sightOf (j .grid) marks codes (boxesIn boxes 0 boxCount) v)
+module _ {j : Job} {k : ℕ} {metal : List (List ℕ)} {occupants codes pins boxes : List ℕ} {pinCount boxCount : ℕ}
+    (hand : NetAtHand j k metal occupants codes pins boxes pinCount boxCount) (made : List ℕ)
+    (sights : (v : ℕ) → v < vertices (j .grid) → getD made v 0 ≡ sightOf (j .grid) occupants codes (boxesIn boxes 0 boxCount) v)
     (long : vertices (j .grid) ≤ length made) where
   -- the bytes, with the net's own pins open
   abbrev bytes : List ℕ
   bytes = opened (suc k) codes (take pinCount pins) made
 
   module _ (v : ℕ) (on : v < vertices (j .grid)) where
-    -- whether the vertex is one of the net's own pins, is marked, has another net's code, lies outside the guide
+    -- whether the vertex is one of the net's own pins, has an occupant, has another net's code, lies outside
+    -- the guide
     abbrev own : Bool
     own = member v (pinsOf (j .grid) (hand .net))
 
-    abbrev marked : Bool
-    marked = not (eqb (getD marks v 0) 0)
+    abbrev occupied : Bool
+    occupied = not (eqb (getD occupants v 0) 0)
 
     abbrev taken : Bool
     taken = takenCode (suc k) (getD codes v 0)
@@ -70,12 +71,12 @@ module _ {j : Job} {k : ℕ} {metal : List (List ℕ)} {marks codes pins boxes :
     outside = not (inGuide (hand .net .boxes) (vertexBy (j .grid) v))
 
     -- the byte of the vertex
-    byte-at : getD bytes v 0 ≡ seenByte (not own && marked) taken outside
+    byte-at : getD bytes v 0 ≡ seenByte (not own && occupied) taken outside
     unfolding sightOf takenCode
     byte-at =
         opened-at (suc k) codes (take pinCount pins) made v (omega (arith, on, long))
-        ∙ rw (sights v on, hand .ownPins, hand .ownBoxes) (byte-opened (suc k) (getD codes v 0) own marked (not (eqb (getD codes v 0) 0)) outside)
-        ∙ ap (λ (b : Bool). seenByte (not own && marked) b outside) (by own refl)
+        ∙ rw (sights v on, hand .ownPins, hand .ownBoxes) (byte-opened (suc k) (getD codes v 0) own occupied (not (eqb (getD codes v 0) 0)) outside)
+        ∙ ap (λ (b : Bool). seenByte (not own && occupied) b outside) (by own refl)
       where
         by : (b : Bool) → own ≡ b → cond b (takenCode (suc k) (getD codes v 0)) (not (eqb (getD codes v 0) 0)) ≡ taken
         by true e = refl
@@ -86,9 +87,9 @@ module _ {j : Job} {k : ℕ} {metal : List (List ℕ)} {marks codes pins boxes :
         ≡ (onObstacle (j .grid) (j .obstacles) (vertexBy (j .grid) v) || othersHold k (map (pinsOf (j .grid)) (j .nets)) v)
     blocked-at =
         let in-grid = below-inside (j .grid) (vertexBy (j .grid) v) (vertex-below (j .grid) on) in
-        let told = blocked-mark (j .grid) (j .obstacles) (vertexBy (j .grid) v) in-grid (hand .net) (hand .after) (hand .before)
-        (rw (hand .nets) at (hand .job .goodNets)) (rw (hand .nets) at (hand .job .distinctPins)) (rw (hand .nets) at (hand .marked)) in
-        ap (holds 1) byte-at ∙ byte-holds (not own && marked) taken outside .0 ∙ sym (rw (← hand .nets, hand .index, number-vertex (j .grid) v) at told)
+        let told = blocked-occupant (j .grid) (j .obstacles) (vertexBy (j .grid) v) in-grid (hand .net) (hand .after) (hand .before)
+        (rw (hand .nets) at (hand .job .goodNets)) (rw (hand .nets) at (hand .job .distinctPins)) (rw (hand .nets) at (hand .occupied)) in
+        ap (holds 1) byte-at ∙ byte-holds (not own && occupied) taken outside .0 ∙ sym (rw (← hand .nets, hand .index, number-vertex (j .grid) v) at told)
 
     -- taken: another net's metal
     taken-at : holds 2 (getD bytes v 0) ≡ othersHold k metal v
@@ -96,13 +97,13 @@ module _ {j : Job} {k : ℕ} {metal : List (List ℕ)} {marks codes pins boxes :
         let nets = ap length (hand .nets) ∙ length-append (hand .before) (hand .net ∷ hand .after) in
         let few : length metal ≤ 255 = omega (arith, hand .metals, hand .job .nets) in
         let known : k < length metal = omega (arith, hand .metals, nets, hand .index) in
-        ap (holds 2) byte-at ∙ byte-holds (not own && marked) taken outside .1 ∙ ap (takenCode (suc k)) (hand .coded v on) ∙ sym (taken-code metal k v known few)
+        ap (holds 2) byte-at ∙ byte-holds (not own && occupied) taken outside .1 ∙ ap (takenCode (suc k)) (hand .coded v on) ∙ sym (taken-code metal k v known few)
 
     -- in the guide
     guided-at : not (holds 4 (getD bytes v 0)) ≡ inGuide (boxesOf k (j .nets)) (vertexBy (j .grid) v)
     guided-at =
         let boxes = ap (boxesOf k) (hand .nets) ∙ (rw (hand .index) at (boxes-of (hand .before) (hand .net) (hand .after))) in
-        ap (λ (b : ℕ). not (holds 4 b)) byte-at ∙ ap not (byte-holds (not own && marked) taken outside .2) ∙ Bool·not-not _
+        ap (λ (b : ℕ). not (holds 4 b)) byte-at ∙ ap not (byte-holds (not own && occupied) taken outside .2) ∙ Bool·not-not _
         ∙ ap (λ (bs : List Box). inGuide bs (vertexBy (j .grid) v)) (sym boxes)
 
   -- so the bytes' view is the net's
@@ -116,8 +117,8 @@ module _ {j : Job} {k : ℕ} {metal : List (List ℕ)} {marks codes pins boxes :
       }
 
 -- the bytes that the code has made
-pub seen-view : {g : Grid} {n : ℕ} {j : Job} {k : ℕ} {metal : List (List ℕ)} {marks codes pins boxes seen : List ℕ}
+pub seen-view : {g : Grid} {n : ℕ} {j : Job} {k : ℕ} {metal : List (List ℕ)} {occupants codes pins boxes seen : List ℕ}
     {pinCount boxCount : ℕ} (made : List ℕ)
-    → ((v : ℕ) → v < vertices g → getD made v 0 ≡ sightOf g marks codes (boxesIn boxes 0 boxCount) v) → vertices g ≤ length made
-    → seen ≡ opened n codes (take pinCount pins) made → g ≡ j .grid → n ≡ suc k → NetAtHand j k metal marks codes pins boxes pinCount boxCount → viewBy g seen ≡ viewOf j k metal
+    → ((v : ℕ) → v < vertices g → getD made v 0 ≡ sightOf g occupants codes (boxesIn boxes 0 boxCount) v) → vertices g ≤ length made
+    → seen ≡ opened n codes (take pinCount pins) made → g ≡ j .grid → n ≡ suc k → NetAtHand j k metal occupants codes pins boxes pinCount boxCount → viewBy g seen ≡ viewOf j k metal
 seen-view made sights long opens grid number hand = rw (opens, grid, number) (view-made hand made (rw grid at sights) (rw grid at long))

@@ -1,5 +1,6 @@
 -- Bytes made in order of the vertices' numbers.
---     MadeTo, made-begin, made-turn, made-end     the loop over the vertices: before a turn, before the first, a turn, after the last
+--     MadeTo, made-begin, made-turn, made-end     the loop over the vertices: before a turn, before the
+--                                                 first, a turn, after the last
 use Prim.Native.Nat.{ℕ, _+_, _≤_, _<_}
 use mathlib.Core.Path.{_≡_, refl, _∙_}
 use mathlib.Core.List.{List}

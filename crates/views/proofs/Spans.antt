@@ -1,8 +1,10 @@
--- Vertices found inside the guide, span by span: the columns of a row, the rows of a layer, the layers of a box.
+-- Vertices found inside the guide, span by span: the columns of a row, the rows of a layer, the layers of a
+-- box.
 --     guided-twice                                found by one test and then by another
 --     passed                                      the numbers of a span below one
 --     Slab, row-slab, layer-slab, box-slab        tests of vertices that ask one thing more
---     SpanTo, span-begin, span-turn, span-end     the loop over a span: before a turn, before the first, a turn, after the last
+--     SpanTo, span-begin, span-turn, span-end     the loop over a span: before a turn, before the first, a
+--                                                 turn, after the last
 use Prim.Native.Nat.{ℕ, _+_, _≤_, _<_}
 use mathlib.Core.Path.{_≡_, refl, sym, ap, _∙_}
 use mathlib.Core.List.{List}

@@ -1,12 +1,15 @@
--- What the net at hand sees, made from the marks of obstacles and pins, the map's codes, and the net's pins and boxes.
+-- What the net at hand sees, made from the occupants of obstacles and pins, the map's codes, and the net's
+-- pins and boxes.
 --     boxesIn                   boxes, from six numbers each
 --     takenCode                 whether a code tells of another net's metal
 --     seenByte                  the byte of a vertex
 --     inLayer, inRow            a box's vertices on one layer, and on one row
 --     guidedByte, GuidedWhere   the bytes of vertices that are found inside the guide
 --     NetAtHand                 the net of a job that these are of
---     sightOf                   the byte of a vertex where every net's pins are blocked and every net's metal is taken
---     ownByte, opened           the byte of one of the net's own pins from that, and all bytes with its pins made so
+--     sightOf                   the byte of a vertex where every net's pins are blocked and every net's metal
+--                               is taken
+--     ownByte, opened           the byte of one of the net's own pins from that, and all bytes with its pins
+--                               made so
 use Prim.Native.Nat.{ℕ, zero, suc, _+_, _-_, _%_, _<_}
 use mathlib.Core.Path.{_≡_}
 use mathlib.Core.List.{List, [], _∷_, _++_}
@@ -16,12 +19,12 @@ use lib.Dec.{eqb}
 use Rattle.job.specs.Grid.{Grid, Vertex, vertices}
 use Rattle.job.specs.Job.{Box, Net, Job}
 use Rattle.job.specs.Good.{allPins, GoodJob}
-use Rattle.marks.specs.Marks.{Marks}
+use Rattle.occupants.specs.Occupants.{Occupants}
 use Rattle.rules.specs.Tracks.{vertexBy}
 use Rattle.rules.specs.Views.{between, member, inGuide, pinsOf}
 use Rattle.rules.specs.Maps.{netCode}
 
--- the box whose six numbers stand from a place on
+-- the box whose six numbers stand from a position on
 abbrev pub boxIn : (numbers : List ℕ) → (from : ℕ) → Box
 boxIn numbers from =
     record {
@@ -33,7 +36,7 @@ boxIn numbers from =
       columnHigh = getD numbers (from + 5) 0;
     }
 
--- n boxes from a place on
+-- n boxes from a position on
 unfoldable pub boxesIn : (numbers : List ℕ) → (from n : ℕ) → List Box
 boxesIn numbers from zero = []
 boxesIn numbers from (suc n) = boxIn numbers from ∷ boxesIn numbers (from + 6) n
@@ -61,8 +64,9 @@ guidedByte found byte = cond found (byte % 4) byte
 abbrev pub GuidedWhere : Grid → (test : Vertex → Bool) → (before after : List ℕ) → Type 0
 GuidedWhere g test before after = (v : ℕ) → v < vertices g → getD after v 0 ≡ guidedByte (test (vertexBy g v)) (getD before v 0)
 
--- net k of a good job, with its pins and boxes in arrays, the marks of the job, and the map's codes of the metal
-pub record NetAtHand (j : Job) (k : ℕ) (metal : List (List ℕ)) (marks codes pins boxes : List ℕ) (pinCount boxCount : ℕ) : Type 0 where
+-- net k of a good job, with its pins and boxes in arrays, the occupants of the job, and the map's codes of
+-- the metal
+pub record NetAtHand (j : Job) (k : ℕ) (metal : List (List ℕ)) (occupants codes pins boxes : List ℕ) (pinCount boxCount : ℕ) : Type 0 where
   pub job : GoodJob j
   pub before : List Net
   pub net : Net
@@ -70,7 +74,7 @@ pub record NetAtHand (j : Job) (k : ℕ) (metal : List (List ℕ)) (marks codes 
   pub nets : j .nets ≡ before ++ (net ∷ after)
   pub index : length before ≡ k
   pub metals : length metal ≡ length (j .nets)
-  pub marked : Marks (j .grid) (j .obstacles) (allPins (j .nets)) marks
+  pub occupied : Occupants (j .grid) (j .obstacles) (allPins (j .nets)) occupants
   pub coded : (v : ℕ) → v < vertices (j .grid) → getD codes v 0 ≡ netCode 0 1 metal v
   pub ownPins : take pinCount pins ≡ pinsOf (j .grid) net
   pub ownBoxes : boxesIn boxes 0 boxCount ≡ net .boxes
@@ -78,9 +82,9 @@ pub record NetAtHand (j : Job) (k : ℕ) (metal : List (List ℕ)) (marks codes 
   pub fresh : (v : ℕ) → v < vertices (j .grid) → getD codes v 0 ≡ suc k → member v (pinsOf (j .grid) net) ≡ true
 
 -- the byte of a vertex where every net's pins are blocked and every net's metal is taken
-unfoldable pub sightOf : Grid → (marks codes : List ℕ) → List Box → (v : ℕ) → ℕ
-sightOf g marks codes boxes v =
-    seenByte (not (eqb (getD marks v 0) 0)) (not (eqb (getD codes v 0) 0)) (not (inGuide boxes (vertexBy g v)))
+unfoldable pub sightOf : Grid → (occupants codes : List ℕ) → List Box → (v : ℕ) → ℕ
+sightOf g occupants codes boxes v =
+    seenByte (not (eqb (getD occupants v 0) 0)) (not (eqb (getD codes v 0) 0)) (not (inGuide boxes (vertexBy g v)))
 
 -- the byte of one of the net's own pins, from that: it is not blocked, and it is taken by another net's code
 unfoldable pub ownByte : (n code byte : ℕ) → ℕ

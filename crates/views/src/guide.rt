@@ -6,7 +6,7 @@ ghost use Rattle.views.specs.Sight.{boxIn};
 use job::groups::Box;
 use job::groups::Span;
 
-// The box whose six numbers stand from a place on.
+// The box whose six numbers stand from a position on.
 pub fn box_in(boxes: &[usize; 90], from: usize) -> Box
     requires { ⌜ from ≤ 84 ⌝ }
     ensures { λ r. ⌜ r ≡ boxStruct (boxIn (now (boxes .entry)) from) ⌝ }

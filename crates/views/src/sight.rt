@@ -1,4 +1,4 @@
-// The byte of each vertex, from its mark, its code and the guide.
+// The byte of each vertex, from its occupant, its code and the guide.
 ghost use mathlib.Core.Path.{_≡_};
 ghost use mathlib.Core.List.{List};
 ghost use mathlib.Core.Bool.{not, cond};
@@ -35,12 +35,12 @@ fn taken_by(net: u16, code: u16) -> bool
     code != 0 && code != net
 }
 
-// The byte of a vertex with a mark and a code, where every net's pins are blocked and every net's metal is taken. The mark is not 0 on an obstacle
-// and on every net's pin.
-fn byte_of(mark: u8, code: u16, inside: bool) -> u8
-    ensures { λ r. ⌜ r ≡ seenByte (not (eqb mark 0)) (not (eqb code 0)) (not inside) ⌝ }
+// The byte of a vertex with an occupant and a code, where every net's pins are blocked and every net's metal
+// is taken. The occupant is not 0 on an obstacle and on every net's pin.
+fn byte_of(occupant: u8, code: u16, inside: bool) -> u8
+    ensures { λ r. ⌜ r ≡ seenByte (not (eqb occupant 0)) (not (eqb code 0)) (not inside) ⌝ }
 {
-    let blocked = flag_if(mark != 0, BLOCKED);
+    let blocked = flag_if(occupant != 0, BLOCKED);
     let taken = flag_if(code != 0, TAKEN);
     blocked + taken + flag_if(!inside, OUTSIDE)
 }
@@ -53,13 +53,13 @@ fn own_byte(byte: u8, code: u16, net: u16) -> u8
 }
 
 // The bytes of the first vertices, in one pass: all vertices are inside the guide or none is.
-fn see_marks(seen: &mut [u8], marks: &[u8; 16384], map: &[u16], count: usize, inside: bool)
+fn see_occupants(seen: &mut [u8], occupants: &[u8; 16384], map: &[u16], count: usize, inside: bool)
     requires { ⌜ (count ≤ length (now seen)) × (count ≤ length (now map)) × (count ≤ 16384) ⌝ }
     ensures { λ _. ⌜ ((v : ℕ) → v < count → getD (now (seen .exit)) v 0
-        ≡ seenByte (not (eqb (getD (now (marks .entry)) v 0) 0)) (not (eqb (getD (now (map .entry)) v 0) 0)) (not inside)) ⌝ }
+        ≡ seenByte (not (eqb (getD (now (occupants .entry)) v 0) 0)) (not (eqb (getD (now (map .entry)) v 0) 0)) (not inside)) ⌝ }
 {
     for v in 0..count {
-        seen[v] = byte_of(marks[v], map[v], inside);
+        seen[v] = byte_of(occupants[v], map[v], inside);
     }
 }
 
@@ -74,7 +74,8 @@ fn end_below(span: Span, size: usize) -> usize
     }
 }
 
-// A box's vertices on one row are inside the guide. OUTSIDE is the highest flag: the remainder keeps the others.
+// A box's vertices on one row are inside the guide. OUTSIDE is the highest flag: the remainder keeps the
+// others.
 fn guide_row(seen: &mut [u8], grid: Grid, layer: usize, row: usize, columns: Span)
     requires { ⌜ (Sized grid) × (vertices (gridOf grid) ≤ length (now seen)) × (layer < grid .layers) × (row < grid .rows) ⌝ }
     ensures { λ _. ⌜ GuidedWhere (gridOf grid) (inRow layer row (columns .low) (columns .high)) (now (seen .entry)) (now (seen .exit)) ⌝ }
@@ -115,7 +116,7 @@ fn guide_box(seen: &mut [u8], grid: Grid, guide: Box)
 // No boxes: the whole grid is inside the guide.
 fn see_grid(
     seen: &mut [u8],
-    marks: &[u8; 16384],
+    occupants: &[u8; 16384],
     map: &[u16],
     grid: Grid,
     boxes: &[usize; 90],
@@ -123,9 +124,9 @@ fn see_grid(
 )
     requires { ⌜ (Sized grid) × (vertices (gridOf grid) ≤ length (now seen)) × (vertices (gridOf grid) ≤ length (now map)) × (count ≤ 15) ⌝ }
     ensures { λ _. ⌜ ((v : ℕ) → v < vertices (gridOf grid) → getD (now (seen .exit)) v 0
-        ≡ sightOf (gridOf grid) (now (marks .entry)) (now (map .entry)) (boxesIn (now (boxes .entry)) 0 count) v) ⌝ }
+        ≡ sightOf (gridOf grid) (now (occupants .entry)) (now (map .entry)) (boxesIn (now (boxes .entry)) 0 count) v) ⌝ }
 {
-    see_marks(seen, marks, map, grid.vertices(), count == 0);
+    see_occupants(seen, occupants, map, grid.vertices(), count == 0);
     for i in 0..count {
         guide_box(seen, grid, box_in(boxes, 6 * i));
     }
@@ -145,7 +146,7 @@ fn open_pins(seen: &mut [u8; 16384], map: &[u16], pins: &[usize], count: usize, 
 // What the net at hand sees, in its bytes.
 pub fn see_net(
     seen: &mut [u8; 16384],
-    marks: &[u8; 16384],
+    occupants: &[u8; 16384],
     map: &[u16],
     grid: Grid,
     pins: &[usize; 16],
@@ -157,9 +158,9 @@ pub fn see_net(
     requires { ⌜ (Sized grid) × (vertices (gridOf grid) ≤ length (now map)) × (pincount ≤ 16) × (boxcount ≤ 15) ⌝ }
     requires { ⌜ All (λ v. v < vertices (gridOf grid)) (take pincount (now pins)) ⌝ }
     ensures { λ _. ⌜ ((j : Job) (k : ℕ) (metal : List (List ℕ)) → gridOf grid ≡ j .grid → net ≡ suc k
-        → NetAtHand j k metal (now (marks .entry)) (now (map .entry)) (now (pins .entry)) (now (boxes .entry)) pincount boxcount
+        → NetAtHand j k metal (now (occupants .entry)) (now (map .entry)) (now (pins .entry)) (now (boxes .entry)) pincount boxcount
         → viewBy (gridOf grid) (now (seen .exit)) ≡ viewOf j k metal) ⌝ }
 {
-    see_grid(seen, marks, map, grid, boxes, boxcount);
+    see_grid(seen, occupants, map, grid, boxes, boxcount);
     open_pins(seen, map, pins, pincount, net);
 }

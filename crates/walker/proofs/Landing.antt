@@ -83,10 +83,10 @@ module _ (tech : TechStruct) (view : View) (p : PlaceStruct) (number : ℕ) (m :
       → after ≡ layAll net (extended (gridOf (tech .grid)) (p .vertex) (m .extension) ++ (m .next .vertex ∷ [])) codes
       → enterBy net (madeBy (gridOf (tech .grid)) view (p .vertex) m) (record { spots = spots; codes = codes }) ≡ record { spots = more; codes = after }
   unfolding madeBy enterBy extended laidBy
-  made-entered net spots codes {more} {after} marked laid =
+  made-entered net spots codes {more} {after} put laid =
       let run = beyond-clear (gridOf (tech .grid)) view (directionOf (m .extension .toward)) (m .extension .count) (p .vertex) (whole .whole .clear) in
       let codes-after = sym (laid ∙ ap (λ (vs : List ℕ). layAll net (vs ++ (m .next .vertex ∷ [])) codes) run) in
-      λ i. record { spots = sym marked i; codes = codes-after i }
+      λ i. record { spots = sym put i; codes = codes-after i }
 
 -- of no moves
 pub made-none : (tech : TechStruct) (start : ℕ) → start < vertices (gridOf (tech .grid)) → MovesMade tech 0 (walkFrom start) (goneAt start)

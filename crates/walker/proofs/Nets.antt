@@ -1,7 +1,8 @@
 -- The net at hand among the nets of the job, as the code goes through them.
 --     Nets                       the nets before and after, the metal, and what the arrays hold
 --     nets-begun                 before the first net
---     rules, grid, nets-sized    the job keeps its rules; the code's grid is its grid; what the code may ask of it
+--     rules, grid, nets-sized    the job keeps its rules; the code's grid is its grid; what the code may ask
+--                                of it
 --     hand, split, hand-held     the net at hand; where it stands; how it is loaded
 --     own, own-pins, pins-fit    its pins, and the array of them
 --     at-net                     what is known before its first record
@@ -37,7 +38,7 @@ use Rattle.metal.proofs.Slices.{beyond-refl}
 use Rattle.metal.proofs.Nets.{JobFits, job-fits, NetHeld, net-held}
 use Rattle.tree.specs.Spots.{Pins, begunSpots}
 use Rattle.tree.proofs.Turns.{pin-count}
-use Rattle.tree.proofs.Marked.{spots-begun, begun-long}
+use Rattle.tree.proofs.Spots.{spots-begun, begun-long}
 use Rattle.views.specs.Sight.{boxesIn, NetAtHand}
 use Rattle.views.proofs.Arrays.{boxes-in}
 use Rattle.views.proofs.Codes.{holdsAt, code-own}
@@ -57,13 +58,13 @@ pub empty : {A : Type 0} (l : List A) → length l ≤ 0 → l ≡ []
 empty [] h = refl
 empty (n ∷ ns) h = absurd (omega (arith, h))
 
-module _ (bytes : List ℕ) (tech : TechStruct) (marks found : List ℕ) {count start : ℕ} (held : NetsHeld bytes tech marks found count start) where
+module _ (bytes : List ℕ) (tech : TechStruct) (occupants found : List ℕ) {count start : ℕ} (held : NetsHeld bytes tech occupants found count start) where
   -- so many nets are left: the codes are those of the metal, and past the grid the map is as found
-  pub record Nets (before after : List Net) (metal : List (List ℕ)) (codes pins boxes : List ℕ) (place net left : ℕ) : Type 0 where
+  pub record Nets (before after : List Net) (metal : List (List ℕ)) (codes pins boxes : List ℕ) (position net left : ℕ) : Type 0 where
     pub nets : held .job .nets ≡ before ++ after
     pub number : length before ≡ net
     pub rest : length after ≡ left
-    pub bit : netAt (held .job) (length before) ≡ place
+    pub bit : netAt (held .job) (length before) ≡ position
     pub sixteen : length pins ≡ 16
     pub ninety : length boxes ≡ 90
     pub metals : length metal ≡ length (held .job .nets)
@@ -103,8 +104,8 @@ module _ (bytes : List ℕ) (tech : TechStruct) (marks found : List ℕ) {count 
   pub nets-sized : JobFits bytes (tech .grid)
   nets-sized = job-fits bytes (tech .grid) (held .job) (held .read) (sym grid)
 
-  module _ {before after : List Net} {metal : List (List ℕ)} {codes pins boxes : List ℕ} {place net left : ℕ}
-      (so-far : Nets before after metal codes pins boxes place net left) where
+  module _ {before after : List Net} {metal : List (List ℕ)} {codes pins boxes : List ℕ} {position net left : ℕ}
+      (so-far : Nets before after metal codes pins boxes position net left) where
     -- the map has room for the grid
     long : vertices (held .job .grid) ≤ length codes
     long = omega (arith, held .room, so-far .kept .size)
@@ -147,7 +148,7 @@ module _ (bytes : List ℕ) (tech : TechStruct) (marks found : List ℕ) {count 
       few-boxes = of-hand (GoodNet (held .job .grid) (held .job .obstacles)) (rules .goodNets) .boxes
 
       -- it is loaded from its bit
-      pub hand-held : NetHeld bytes (gridOf (tech .grid)) (hand .0) place (netAt (held .job) (suc (length before))) pins
+      pub hand-held : NetHeld bytes (gridOf (tech .grid)) (hand .0) position (netAt (held .job) (suc (length before))) pins
       hand-held = net-held (held .job) before (hand .0) (hand .1) (held .read) split (so-far .sixteen) (sym grid) (so-far .bit)
 
       -- its pins, by number
@@ -166,8 +167,8 @@ module _ (bytes : List ℕ) (tech : TechStruct) (marks found : List ℕ) {count 
       own-array : All (λ v. v < 16384) own
       own-array = all-below (rules .grid .vertices) own own-below
 
-      module _ {loaded : NetLoaded} {pins′ boxes′ : List ℕ} (isLoaded : loaded ≡ netLoaded (bitsOf bytes) place)
-          (isPins : pins′ ≡ pinsLoaded (bitsOf bytes) (gridOf (tech .grid)) place pins) (isBoxes : boxes′ ≡ boxesLoaded (bitsOf bytes) place boxes) where
+      module _ {loaded : NetLoaded} {pins′ boxes′ : List ℕ} (isLoaded : loaded ≡ netLoaded (bitsOf bytes) position)
+          (isPins : pins′ ≡ pinsLoaded (bitsOf bytes) (gridOf (tech .grid)) position pins) (isBoxes : boxes′ ≡ boxesLoaded (bitsOf bytes) position boxes) where
         -- its pins are the first of the array
         pub own-pins : take (loaded .pins) pins′ ≡ own
         own-pins = rw (isPins, isLoaded) (hand-held .list ∙ ap (λ (g : Grid). pinsOf g (hand .0)) grid)
@@ -209,7 +210,7 @@ module _ (bytes : List ℕ) (tech : TechStruct) (marks found : List ℕ) {count 
             rw isLoaded (omega (arith, told .boxes, few-boxes))
 
         -- it is the net at hand
-        at-hand : NetAtHand (held .job) (length before) metal marks codes pins′ boxes′ (loaded .pins) (loaded .boxes)
+        at-hand : NetAtHand (held .job) (length before) metal occupants codes pins′ boxes′ (loaded .pins) (loaded .boxes)
         unfolding Codes metalAtFirst
         at-hand =
             record {
@@ -220,7 +221,7 @@ module _ (bytes : List ℕ) (tech : TechStruct) (marks found : List ℕ) {count 
               nets = split;
               index = refl;
               metals = so-far .metals;
-              marked = held .marked;
+              occupied = held .occupied;
               coded = so-far .coded;
               ownPins = own-pins;
               ownBoxes = own-boxes;
@@ -244,7 +245,7 @@ module _ (bytes : List ℕ) (tech : TechStruct) (marks found : List ℕ) {count 
 
         -- what is known before its first record
         pub at-net : (view : View) → ((j : Job) (i : ℕ) (stands : List (List ℕ)) → gridOf (tech .grid) ≡ j .grid → net + 1 ≡ suc i
-            → NetAtHand j i stands marks codes pins′ boxes′ (loaded .pins) (loaded .boxes) → view ≡ viewOf j i stands)
+            → NetAtHand j i stands occupants codes pins′ boxes′ (loaded .pins) (loaded .boxes) → view ≡ viewOf j i stands)
             → AtNet (held .job) (length before) view own (begun own metal) first
         unfolding begun member any
         at-net view sees =

@@ -26,7 +26,7 @@ use Rattle.metal.specs.Codes.{layAll, Codes}
 use Rattle.metal.proofs.Coded.{codes-laid, codes-alike}
 use Rattle.metal.proofs.Laid.{laid-beyond}
 use Rattle.tree.specs.Spots.{Spots}
-use Rattle.tree.proofs.Marked.{spots-entered, spots-joined}
+use Rattle.tree.proofs.Spots.{spots-entered, spots-joined}
 use Rattle.walker.specs.Entering.{Arrays, enterBy, thenMade}
 use Rattle.walker.specs.Standing.{Stood, AtNet}
 

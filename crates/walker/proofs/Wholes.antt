@@ -1,6 +1,7 @@
 -- A whole job: from its reading to the map before the first net, and from the last net to the map at the end.
 --     plan-grid, plan-room, pins-held       what laying the pins asks
---     laid-kept, nets-held, after-long      what going through the nets asks, and that the map has room after them
+--     laid-kept, nets-held, after-long      what going through the nets asks, and that the map has room after
+--                                           them
 --     read-grid, finished-map               the map with obstacles put in is the job's
 --     count-zeroed, bare-long               by a count of the vertices
 use Prim.Native.Nat.{ℕ, _≤_}
@@ -13,7 +14,7 @@ use Rattle.job.specs.Job.{Job}
 use Rattle.job.specs.Good.{allPins}
 use Rattle.job.specs.Reading.{good, readJob}
 use Rattle.job.specs.Structs.{gridOf}
-use Rattle.marks.specs.Marks.{Marks}
+use Rattle.occupants.specs.Occupants.{Occupants}
 use Rattle.rules.specs.Prices.{techOf}
 use Rattle.rules.specs.Standings.{metalAtFirst}
 use Rattle.rules.specs.Maps.{mapOf}
@@ -25,7 +26,7 @@ use Rattle.metal.proofs.Slices.{beyond-trans, zeroed-bare, zeroed-beyond}
 use Rattle.metal.proofs.Finished.{map-finished}
 use Rattle.walker.specs.Structs.{NetsHeld, PlanHeld}
 
-module _ (bytes : List ℕ) (tech : TechStruct) (marks found : List ℕ) (count start : ℕ) (held : PlanHeld bytes tech marks found count start) where
+module _ (bytes : List ℕ) (tech : TechStruct) (occupants found : List ℕ) (count start : ℕ) (held : PlanHeld bytes tech occupants found count start) where
   -- the code's grid is the job's
   plan-grid : gridOf (tech .grid) ≡ held .job .grid
   unfolding techBy techOf
@@ -46,7 +47,7 @@ module _ (bytes : List ℕ) (tech : TechStruct) (marks found : List ℕ) (count 
 
     -- what going through the nets asks
     pub nets-held : ((j : Job) → readJob bytes ≡ good j → Bare (vertices (gridOf (tech .grid))) bare → Codes (gridOf (tech .grid)) (metalAtFirst j) laid)
-        → NetsHeld bytes tech marks laid count start
+        → NetsHeld bytes tech occupants laid count start
     nets-held coded =
         record {
           job = held .job;
@@ -55,7 +56,7 @@ module _ (bytes : List ℕ) (tech : TechStruct) (marks found : List ℕ) (count 
           fits = held .fits;
           nets = held .nets;
           from = held .from;
-          marked = held .marked;
+          occupied = held .occupied;
           coded = rw plan-grid at (coded (held .job) (held .read) (rw zeros (zeroed-bare _ found)));
           room = omega (arith, held .room, laid-kept .size);
         }
@@ -70,13 +71,13 @@ module _ (bytes : List ℕ) (tech : TechStruct) (marks found : List ℕ) (count 
 
   -- with obstacles put in, the map of the metal is the job's
   pub finished-map : (metal : List (List ℕ)) (after : List ℕ) → Codes (gridOf (tech .grid)) metal after → Beyond (vertices (gridOf (tech .grid))) after found
-      → (j : Job) → readJob bytes ≡ good j → withObstacles marks (vertices (gridOf (tech .grid))) after ≡ mapOf j metal ++ drop (vertices (j .grid)) found
+      → (j : Job) → readJob bytes ≡ good j → withObstacles occupants (vertices (gridOf (tech .grid))) after ≡ mapOf j metal ++ drop (vertices (j .grid)) found
   finished-map metal after coded past j read =
       let same : held .job ≡ j = cc (held .read) in
       let g = read-grid j read in
-      ap (λ (h : Grid). withObstacles marks (vertices h) after) g
-      ∙ map-finished j metal marks after found
-      (subst (λ (k : Job). Marks (k .grid) (k .obstacles) (allPins (k .nets)) marks) same (held .marked)) (subst (λ (k : Job). vertices (k .grid) ≤ length found) same (held .room))
+      ap (λ (h : Grid). withObstacles occupants (vertices h) after) g
+      ∙ map-finished j metal occupants after found
+      (subst (λ (k : Job). Occupants (k .grid) (k .obstacles) (allPins (k .nets)) occupants) same (held .occupied)) (subst (λ (k : Job). vertices (k .grid) ≤ length found) same (held .room))
       (subst (λ (h : Grid). Codes h metal after) g coded) (subst (λ (h : Grid). Beyond (vertices h) after found) g past)
 
 -- the map zeroed by a count of the vertices
@@ -84,8 +85,8 @@ pub count-zeroed : (found : List ℕ) {n v : ℕ} {bare : List ℕ} → n ≡ v 
 count-zeroed found {bare = bare} e h = subst (λ (k : ℕ). bare ≡ zeroed k found) e h
 
 -- it has room
-pub bare-long : (bytes : List ℕ) (tech : TechStruct) (marks found : List ℕ) (count start : ℕ) → PlanHeld bytes tech marks found count start → {bare : List ℕ}
+pub bare-long : (bytes : List ℕ) (tech : TechStruct) (occupants found : List ℕ) (count start : ℕ) → PlanHeld bytes tech occupants found count start → {bare : List ℕ}
     → bare ≡ zeroed (vertices (gridOf (tech .grid))) found → vertices (gridOf (tech .grid)) ≤ length bare
-bare-long bytes tech marks found count start held zeros =
-    let room = plan-room bytes tech marks found count start held in
+bare-long bytes tech occupants found count start held zeros =
+    let room = plan-room bytes tech occupants found count start held in
     rw zeros (omega (arith, room, zeroed-beyond {xs = found} room .size))

@@ -18,7 +18,8 @@ pub record Arrays : Type 0 where
   pub spots : List ℕ
   pub codes : List ℕ
 
--- the vertices of its extension and the vertex that it enters become metal of net n, and that vertex enters the tree
+-- the vertices of its extension and the vertex that it enters become metal of net n, and that vertex enters
+-- the tree
 unfoldable pub enterBy : (n : ℕ) → Made → Arrays → Arrays
 enterBy n made arrays =
     record {

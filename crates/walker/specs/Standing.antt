@@ -22,8 +22,8 @@ pub record Stood (g : Grid) (s : Standing) (arrays : Arrays) : Type 0 where
   pub room : vertices g ≤ length (arrays .spots)
   pub size : vertices g ≤ length (arrays .codes)
 
--- before each record of net k: the arrays stand for what stands, which keeps tree and unjoined pins apart; these are among the net's pins; and the
--- view is the net's
+-- before each record of net k: the arrays stand for what stands, which keeps tree and unjoined pins apart;
+-- these are among the net's pins; and the view is the net's
 pub record AtNet (j : Job) (k : ℕ) (view : View) (pins : List ℕ) (s : Standing) (arrays : Arrays) : Type 0 where
   pub stood : Stood (j .grid) s arrays
   pub apart : Stands (techOf j) s

@@ -11,7 +11,7 @@ use Rattle.job.specs.Grid.{vertices}
 use Rattle.job.specs.Job.{Job}
 use Rattle.job.specs.Good.{allPins}
 use Rattle.job.specs.Reading.{good, jobHead, netsAt, readJob}
-use Rattle.marks.specs.Marks.{Marks}
+use Rattle.occupants.specs.Occupants.{Occupants}
 use Rattle.rules.specs.Prices.{techOf}
 use Rattle.rules.specs.Standings.{metalAtFirst}
 use Rattle.rules.specs.Routings.{Totals}
@@ -72,25 +72,25 @@ pub record Bounded (n : ℕ) (totals : TotalsStruct) (at : ℕ) : Type 0 where
 
 -- ---- a job that was read, with what the code holds of it
 
--- before any net is joined: layers, marks, and a map with room
-pub record PlanHeld (bytes : List ℕ) (tech : TechStruct) (marks map : List ℕ) (count start : ℕ) : Type 0 where
+-- before any net is joined: layers, occupants, and a map with room
+pub record PlanHeld (bytes : List ℕ) (tech : TechStruct) (occupants map : List ℕ) (count start : ℕ) : Type 0 where
   pub job : Job
   pub read : readJob bytes ≡ good job
   pub layers : techBy tech ≡ techOf job
   pub fits : TechFits tech
   pub nets : length (job .nets) ≡ count
   pub from : netsAt (jobHead job) ≡ start
-  pub marked : Marks (job .grid) (job .obstacles) (allPins (job .nets)) marks
+  pub occupied : Occupants (job .grid) (job .obstacles) (allPins (job .nets)) occupants
   pub room : vertices (job .grid) ≤ length map
 
--- layers, marks, and the map's codes of its pins
-pub record NetsHeld (bytes : List ℕ) (tech : TechStruct) (marks codes : List ℕ) (count start : ℕ) : Type 0 where
+-- layers, occupants, and the map's codes of its pins
+pub record NetsHeld (bytes : List ℕ) (tech : TechStruct) (occupants codes : List ℕ) (count start : ℕ) : Type 0 where
   pub job : Job
   pub read : readJob bytes ≡ good job
   pub layers : techBy tech ≡ techOf job
   pub fits : TechFits tech
   pub nets : length (job .nets) ≡ count
   pub from : netsAt (jobHead job) ≡ start
-  pub marked : Marks (job .grid) (job .obstacles) (allPins (job .nets)) marks
+  pub occupied : Occupants (job .grid) (job .obstacles) (allPins (job .nets)) occupants
   pub coded : Codes (job .grid) (metalAtFirst job) codes
   pub room : vertices (job .grid) ≤ length codes

@@ -1,5 +1,5 @@
-// A slice that lies against a page that cannot be touched: a read or a write past that end ends the process. What is
-// left of its own pages holds a mark, which must still stand afterwards.
+// A slice that lies against a page that cannot be touched: a read or a write past that end ends the process.
+// What is left of its own pages holds a guard byte, which must still stand afterwards.
 #ifndef HOST_GUARDED_HPP
 #define HOST_GUARDED_HPP
 
@@ -48,7 +48,7 @@ public:
     // A copy of the vector, with its front or its back against the guard page.
     Guarded(const std::vector<Number> &content, End end)
         : pages(content.size() * sizeof(Number)), length(content.size()) {
-        std::fill(pages.begin(), pages.end(), mark);
+        std::fill(pages.begin(), pages.end(), guard);
         const std::size_t bytes = length * sizeof(Number);
         first = reinterpret_cast<Number *>(end == End::front ? pages.begin() : pages.end() - bytes);
         std::copy(content.begin(), content.end(), first);
@@ -58,15 +58,15 @@ public:
     std::size_t size() const { return length; }
     std::vector<Number> content() const { return std::vector<Number>(first, first + length); }
 
-    // Whether the mark stands around the slice.
-    bool mark_stands() const {
-        const auto stands = [](unsigned char byte) { return byte == mark; };
+    // Whether the guard bytes stand around the slice.
+    bool guard_stands() const {
+        const auto stands = [](unsigned char byte) { return byte == guard; };
         return std::all_of(pages.begin(), reinterpret_cast<unsigned char *>(first), stands) &&
                std::all_of(reinterpret_cast<unsigned char *>(first + length), pages.end(), stands);
     }
 
 private:
-    static constexpr unsigned char mark = 0xA7;
+    static constexpr unsigned char guard = 0xA7;
     Pages pages;
     std::size_t length;
     Number *first;

@@ -1,6 +1,6 @@
-// Tests the calls on slices against guard pages, of just the need and one short of it, and on null pointers of
-// length 0. The arguments are files of good jobs. Exits with 0 where all is as the header says; a touch of a guard
-// page ends the process.
+// Tests the calls on slices against guard pages, of just the need and one short of it, and on null pointers
+// of length 0. The arguments are files of good jobs. Exits with 0 where all is as the header says; a touch of
+// a guard page ends the process.
 #include <exception>
 #include <iostream>
 #include <stdexcept>
@@ -67,7 +67,7 @@ struct Slices {
     }
 
     void must_keep_to_slices() const {
-        must(job.mark_stands() && map.mark_stands() && work.mark_stands() && plan.mark_stands(), "a mark is gone");
+        must(job.guard_stands() && map.guard_stands() && work.guard_stands() && plan.guard_stands(), "a guard is gone");
     }
 
     void must_be_as_found() const {

@@ -8,8 +8,8 @@ use crate::library::ReplayResult;
 use crate::replay::{replay, Replay};
 
 /// What the slices hold before a call; no answer puts it there.
-const MAP_MARK: u16 = 0xA5C3;
-const WORK_MARK: u64 = 0xA5C3_96E1_5A3C_691E;
+const MAP_FILL: u16 = 0xA5C3;
+const WORK_FILL: u64 = 0xA5C3_96E1_5A3C_691E;
 
 /// What a replay is called with.
 #[derive(Clone, Copy)]
@@ -32,9 +32,9 @@ struct Answer {
 impl Answer {
     fn ask(&mut self, replay: Replay, case: &Case) {
         self.map.clear();
-        self.map.resize(case.map_len, MAP_MARK);
+        self.map.resize(case.map_len, MAP_FILL);
         self.work.clear();
-        self.work.resize(case.work_len, WORK_MARK);
+        self.work.resize(case.work_len, WORK_FILL);
         self.result = replay(case.job, case.plan, &mut self.map, &mut self.work);
     }
 }

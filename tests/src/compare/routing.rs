@@ -10,12 +10,12 @@ use crate::replay::Replay;
 use crate::routing::{routing, Routing};
 
 /// What map and work hold before a call; no answer puts it there.
-const MAP_MARK: u16 = 0xC35A;
-const WORK_MARK: u64 = 0xC35A_69E1_A5C3_961E;
+const MAP_FILL: u16 = 0xC35A;
+const WORK_FILL: u64 = 0xC35A_69E1_A5C3_961E;
 
 /// What the plan holds before a call, by index: any byte may stand in a plan, so
 /// neighbours differ.
-fn plan_mark(index: usize) -> u8 {
+fn plan_fill(index: usize) -> u8 {
     (index * 37 + 181) as u8
 }
 
@@ -40,18 +40,18 @@ struct Answer {
 
 impl Answer {
     fn ask(&mut self, routing: Routing, case: &Case) {
-        refill(&mut self.map, case.map_len, MAP_MARK);
-        refill(&mut self.work, case.work_len, WORK_MARK);
+        refill(&mut self.map, case.map_len, MAP_FILL);
+        refill(&mut self.work, case.work_len, WORK_FILL);
         self.plan.clear();
-        self.plan.extend((0..case.plan_len).map(plan_mark));
+        self.plan.extend((0..case.plan_len).map(plan_fill));
         let (map, work, plan) = (&mut self.map, &mut self.work, &mut self.plan);
         self.result = routing(case.job, map, work, plan);
     }
 }
 
-fn refill<T: Clone>(slice: &mut Vec<T>, length: usize, mark: T) {
+fn refill<T: Clone>(slice: &mut Vec<T>, length: usize, fill: T) {
     slice.clear();
-    slice.resize(length, mark);
+    slice.resize(length, fill);
 }
 
 /// Asks both and keeps the tally. Its slices are used again and again.
@@ -131,8 +131,8 @@ impl Comparison {
         if given.result.refusal != 0 {
             return None;
         }
-        refill(&mut replayed.map, case.map_len, MAP_MARK);
-        refill(&mut replayed.work, case.work_len, WORK_MARK);
+        refill(&mut replayed.map, case.map_len, MAP_FILL);
+        refill(&mut replayed.work, case.work_len, WORK_FILL);
         let bytes = (given.result.bytes as usize).min(case.plan_len);
         let plan = &given.plan[..bytes];
         let (map, work) = (&mut replayed.map, &mut replayed.work);

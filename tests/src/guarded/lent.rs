@@ -1,12 +1,12 @@
 //! A copy of a slice that lies with one end against a page that cannot be touched,
-//! and a mark around it.
+//! and a guard around it.
 
 use std::ptr;
 
 use super::pages::Pages;
 
 /// What is left of the pages holds this.
-const MARK: u8 = 0xA7;
+const GUARD: u8 = 0xA7;
 
 #[derive(Clone, Copy, Debug, PartialEq, Eq)]
 pub enum End {
@@ -27,7 +27,7 @@ impl<T: Copy> Lent<T> {
     pub fn of(content: &[T], end: End) -> Self {
         let bytes = size_of_val(content);
         let mut pages = Pages::of(bytes);
-        pages.fill(MARK);
+        pages.fill(GUARD);
         let begin = match end {
             End::Front => 0,
             End::Back => pages.bytes().len() - bytes,
@@ -60,13 +60,16 @@ impl<T: Copy> Lent<T> {
         self.length
     }
 
-    /// What the slice holds now goes back; fails where the mark around it is gone.
+    /// What the slice holds now goes back; fails where the guard around it is gone.
     pub fn give_back(&mut self, content: &mut [T]) {
         assert_eq!(content.len(), self.length);
         let (begin, bytes) = (self.begin, size_of_val(content));
         let held = self.pages.bytes();
         let around = held[..begin].iter().chain(&held[begin + bytes..]);
-        assert!(around.copied().all(|byte| byte == MARK), "the mark is gone");
+        assert!(
+            around.copied().all(|byte| byte == GUARD),
+            "the guard is gone"
+        );
         let at = self.pages.at(begin).cast::<T>();
         // SAFETY: `of` has put as many numbers there; the caller's slice is elsewhere.
         unsafe { ptr::copy_nonoverlapping(at, content.as_mut_ptr(), self.length) };
@@ -102,7 +105,7 @@ mod tests {
     }
 
     #[test]
-    #[should_panic(expected = "the mark is gone")]
+    #[should_panic(expected = "the guard is gone")]
     fn a_write_before_the_slice_is_found() {
         let mut lent = Lent::of(&[1_u16, 2, 3], End::Back);
         // SAFETY: of the same page.

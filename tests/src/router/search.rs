@@ -1,8 +1,8 @@
 //! The cheapest join of the net at hand: Dijkstra over places.
 //!
 //! Costs are found forward, from every vertex of the tree at once. Ties are then
-//! settled on the cheapest routes alone: the places that lie on one are marked
-//! from the pins backwards, and the join is walked from the lowest marked start,
+//! settled on the cheapest routes alone: the places that lie on one are found
+//! from the pins backwards, and the join is walked from the lowest such start,
 //! each time by the lowest move that stays on a cheapest route.
 //!
 //! Every move costs at least 1, so costs grow along a route, and once a pin's
@@ -70,8 +70,8 @@ impl<'a> Search<'a> {
     pub fn cheapest(&mut self, net: &NetAtHand) -> Option<Join> {
         self.forget();
         let cost = self.reach_a_pin(net)?;
-        self.mark_back(net, cost);
-        Some(self.walk_marked(net, cost))
+        self.trace_back(net, cost);
+        Some(self.walk_first(net, cost))
     }
 
     fn number(&self, place: Place) -> usize {
@@ -131,26 +131,26 @@ impl<'a> Search<'a> {
         None
     }
 
-    /// Marks each place that lies on a route of this cost, the cheapest.
-    fn mark_back(&mut self, net: &NetAtHand, cost: u64) {
-        let mut marked: Vec<usize> = Vec::new();
+    /// Finds each place that lies on a route of this cost, the cheapest.
+    fn trace_back(&mut self, net: &NetAtHand, cost: u64) {
+        let mut open: Vec<usize> = Vec::new();
         for number in &self.reached {
             let number = *number as usize;
             if self.cost[number] == cost && net.unjoined(number >> self.segment_bits) {
                 self.on_cheapest[number] = true;
-                marked.push(number);
+                open.push(number);
             }
         }
-        while let Some(number) = marked.pop() {
+        while let Some(number) = open.pop() {
             for by in Move::ALL {
-                self.mark_before(net, number, by, &mut marked);
+                self.trace_before(net, number, by, &mut open);
             }
         }
     }
 
-    /// Marks the places from which this move leads to a marked one as cheaply as
+    /// Finds the places from which this move leads to one on a cheapest route as cheaply as
     /// that can be reached.
-    fn mark_before(&mut self, net: &NetAtHand, to: usize, by: Move, marked: &mut Vec<usize>) {
+    fn trace_before(&mut self, net: &NetAtHand, to: usize, by: Move, open: &mut Vec<usize>) {
         let vertex = to >> self.segment_bits;
         let Some(before) = self.board.neighbours.entered(vertex, by.opposite()) else {
             return;
@@ -165,7 +165,7 @@ impl<'a> Search<'a> {
             };
             if self.number(step.to) == to && self.keeps_cost(number, &step) {
                 self.on_cheapest[number] = true;
-                marked.push(number);
+                open.push(number);
             }
         }
     }
@@ -175,15 +175,15 @@ impl<'a> Search<'a> {
         self.cost[from] + step.cost() == self.cost[self.number(step.to)]
     }
 
-    /// The join that comes first among the marked routes.
-    fn walk_marked(&self, net: &NetAtHand, cost: u64) -> Join {
+    /// The join that comes first among the cheapest routes.
+    fn walk_first(&self, net: &NetAtHand, cost: u64) -> Join {
         let starts = net.tree().iter().copied();
-        let marked = |vertex: &usize| self.on_cheapest[self.number(Place::start(*vertex))];
-        let start = starts.filter(marked).min().expect("a route has a start");
+        let on_one = |vertex: &usize| self.on_cheapest[self.number(Place::start(*vertex))];
+        let start = starts.filter(on_one).min().expect("a route has a start");
         let mut moves = Vec::new();
         let mut place = Place::start(start);
         while !net.unjoined(place.vertex) {
-            let (by, step) = self.lowest_marked_move(net, place);
+            let (by, step) = self.lowest_move_on(net, place);
             moves.push(by);
             place = step.to;
         }
@@ -194,7 +194,7 @@ impl<'a> Search<'a> {
         }
     }
 
-    fn lowest_marked_move(&self, net: &NetAtHand, from: Place) -> (Move, Step) {
+    fn lowest_move_on(&self, net: &NetAtHand, from: Place) -> (Move, Step) {
         let number = self.number(from);
         for by in Move::ALL {
             if let Ok(step) = net.view.step(from, by) {
@@ -203,6 +203,6 @@ impl<'a> Search<'a> {
                 }
             }
         }
-        panic!("a marked place leads to a pin");
+        panic!("a place on a cheapest route leads to a pin");
     }
 }

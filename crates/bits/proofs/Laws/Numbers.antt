@@ -1,9 +1,14 @@
 -- Laws of bits and the numbers that they write.
---     below-append, below-take, below-drop, below-replicate, below-set, below-getD     lists whose elements are below a bound
---     length-fieldBits, fieldBits-bits, fieldBits-zero                                 how many bits a field has, that they are bits, the bits of zero
---     number-fieldBits, fieldBits-number                                               a number from its bits, and bits from their number
---     fieldBits-mod, drop-fieldBits, take-fieldBits, fieldBits-split, fieldBits-join   parts of a number's bits
---     number-below, number-append, number-zero                                         the number that bits write
+--     below-append, below-take, below-drop, below-replicate, below-set, below-getD
+--         lists whose elements are below a bound
+--     length-fieldBits, fieldBits-bits, fieldBits-zero
+--         how many bits a field has, that they are bits, the bits of zero
+--     number-fieldBits, fieldBits-number
+--         a number from its bits, and bits from their number
+--     fieldBits-mod, drop-fieldBits, take-fieldBits, fieldBits-split, fieldBits-join
+--         parts of a number's bits
+--     number-below, number-append, number-zero
+--         the number that bits write
 -- Not here: bytes, packing and fields at a position (Bytes); what putting does (Putting).
 use Prim.Native.Nat.{ℕ, zero, suc, _+_, _-_, _*_, _/_, _%_, _^_, _≤_, _<_}
 use mathlib.Core.Path.{_≡_, refl, sym, ap, ap₂, _∙_}

@@ -1,9 +1,12 @@
 -- Laws of bits that are put into bytes.
---     length-putBits, putBits-append, put-bytes     the number of bytes, putting in two goes, bytes stay bytes
---     bitsOf-putBits                                all the bits after putting: those before, those put, zero bits, those of later bytes
+--     length-putBits, putBits-append, put-bytes     the number of bytes, putting in two goes, bytes stay
+--                                                   bytes
+--     bitsOf-putBits                                all the bits after putting: those before, those put, zero
+--                                                   bits, those of later bytes
 --     put-earlier, put-later                        what stays
 --     put-read, put-field                           a read gives back what was put
---     put-packed                                    put from the start: the packed bits, and what stood beyond
+--     put-packed                                    put from the start: the packed bits, and what stood
+--                                                   beyond
 -- Not here: how the code puts a part of a field into one byte (Turn).
 use Prim.Native.Nat.{ℕ, suc, _+_, _-_, _*_, _/_, _%_, _^_, _≤_, _<_}
 use mathlib.Core.Path.{_≡_, refl, sym, ap, _∙_}
@@ -83,12 +86,13 @@ fieldBits-put byte p b hp hb =
     let eight : p + suc q ≡ 8 = omega arith in
     rw (take-fieldBits p 8 byte (omega arith), more) (rw eight at (fieldBits-join p (suc q) (byte / 2 ^ suc q) (b * 2 ^ q) (bit-below q b hb)) ∙ rw (fieldBits-bit q b hb))
 
--- the bits before a place in a byte
-take-place : (s : List ℕ) (i p : ℕ) → i < length s → p < 8 → take (8 * i + p) (bitsOf s) ≡ take (8 * i) (bitsOf s) ++ take p (fieldBits 8 (getD s i 0))
-take-place s i p h hp =
+-- the bits before a position in a byte
+take-position : (s : List ℕ) (i p : ℕ) → i < length s → p < 8 → take (8 * i + p) (bitsOf s) ≡ take (8 * i) (bitsOf s) ++ take p (fieldBits 8 (getD s i 0))
+take-position s i p h hp =
     rw (take-add (8 * i) p, byte-at s i h, take-append-le p (fieldBits 8 (getD s i 0)) (drop (8 * suc i) (bitsOf s)) (omega (arith, length-fieldBits 8 (getD s i 0))))
 
--- all the bits after putting one: those before, the bit, zero bits up to the end of its byte, those of later bytes
+-- all the bits after putting one: those before, the bit, zero bits up to the end of its byte, those of later
+-- bytes
 bitsOf-putBit : (s : List ℕ) (at b : ℕ) → at / 8 < length s → b < 2
     → bitsOf (putBit s at b) ≡ take at (bitsOf s) ++ (b ∷ (replicate (7 - at % 8) 0 ++ drop (8 * suc (at / 8)) (bitsOf s)))
 unfolding putBit
@@ -96,8 +100,8 @@ bitsOf-putBit s at b h hb =
     let i = at / 8 in
     let p = at % 8 in
     let byte = getD s i 0 in
-    let place : 8 * i + p ≡ at = omega arith in
-    let before : take at (bitsOf s) ≡ take (8 * i) (bitsOf s) ++ take p (fieldBits 8 byte) = rw place at (take-place s i p h (omega arith)) in
+    let position : 8 * i + p ≡ at = omega arith in
+    let before : take at (bitsOf s) ≡ take (8 * i) (bitsOf s) ++ take p (fieldBits 8 byte) = rw position at (take-position s i p h (omega arith)) in
     rw (before, bitsOf-set s i (putInByte byte p b) h, fieldBits-put byte p b (omega arith) hb) (simp append-assoc)
 
 -- as many bits as there are before a position
@@ -132,7 +136,8 @@ put-earlier s at (b ∷ bs) h =
     ∙ take-take at (suc at) (bitsOf next) (omega arith)
     ∙ putBit-earlier s at b (h .0)
 
--- all the bits after putting some, which end k bits before the end of a byte: those before, those put, zero bits, those of later bytes
+-- all the bits after putting some, which end k bits before the end of a byte: those before, those put, zero
+-- bits, those of later bytes
 pub bitsOf-putBits : (s : List ℕ) (at b : ℕ) (bs : List ℕ) (k n : ℕ) → AllBelow 2 (b ∷ bs) → at + suc (length bs) + k ≡ 8 * n → k < 8 → n ≤ length s
     → bitsOf (putBits s at (b ∷ bs)) ≡ take at (bitsOf s) ++ (b ∷ (bs ++ (replicate k 0 ++ drop (8 * n) (bitsOf s))))
 unfolding putBits AllBelow

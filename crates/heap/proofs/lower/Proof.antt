@@ -1,4 +1,4 @@
--- `heap::lower` meets its contract: the item is new, or settled, or no better, or better.
+-- `heap::lower` meets its contract: the item is new, or no better, or settled, or better.
 use borrow.Author.Needs.{needs}
 use native.Mathlib.Omega.{arith}
 use Rattle.heap.specs.Heaps.{keyOf, slotOf}
@@ -20,7 +20,9 @@ add-sift-up-2 c = search needs
 
 sift-up-requires : tie.Need-sift-up-requires
 unfolding keyOf
-sift-up-requires c κs = new-lifted _ (c .before .before .before .before .pre .0) (c .before .before .before .before .pre .1) (c .before .if1 .taken) (c .before .before .before .before .pre .2)
+sift-up-requires c κs =
+    let pre = c .before .before .before .before .pre in
+    new-lifted _ (pre .0) (pre .1) (c .before .if1 .taken) (pre .2)
 
 add-result : tie.Need-add-result
 add-result c = search needs
@@ -30,32 +32,39 @@ same-length c = search needs
 
 returns : tie.Need-returns
 unfolding keyOf
-returns c = new-lowered _ (c .before .before .before .before .before .before .before .pre .0) (c .before .before .before .before .before .before .before .pre .1) (c .before .before .before .before .if1 .taken) (c .before .before .sift-up .ensures)
+returns c =
+    let pre = c .before .before .before .before .before .before .before .pre in
+    new-lowered _ (pre .0) (pre .1) (c .before .before .before .before .if1 .taken) (c .before .before .sift-up .ensures)
+
+add-if2 : tie.Need-add-if2
+add-if2 c = search needs
 
 returns-2 : tie.Need-returns-2
-unfolding keyOf slotOf
-returns-2 c = same-lowered (c .before .before .before .before .pre .0) (c .before .if1 .left) (λ o. absurd (omega (arith, o .placed, c .if2 .taken)))
-
-add-if3 : tie.Need-add-if3
-add-if3 c = search needs
+unfolding keyOf
+returns-2 c = same-lowered (c .before .before .before .before .pre .0) (c .before .if1 .left) (λ o. c .if2 .taken)
 
 returns-3 : tie.Need-returns-3
-unfolding keyOf
-returns-3 c = same-lowered (c .before .before .before .before .before .pre .0) (c .before .before .if1 .left) (λ o. c .if3 .taken)
+unfolding keyOf slotOf
+returns-3 c =
+    same-lowered (c .before .before .before .before .before .pre .0) (c .before .before .if1 .left) (λ o. absurd (omega (arith, o .placed, c .if3 .taken)))
 
 add-sift-up-3 : tie.Need-add-sift-up-3
 add-sift-up-3 c = search needs
 
 sift-up-requires-2 : tie.Need-sift-up-requires-2
 unfolding keyOf slotOf
-sift-up-requires-2 c κs = better-lifted _ (c .before .before .before .before .before .before .pre .0) (c .before .before .before .before .before .before .pre .1) (record { touched = omega (arith, c .before .before .before .if1 .left); placed = omega (arith, c .before .before .if2 .left) }) (omega (arith, c .before .if3 .left))
+sift-up-requires-2 c κs =
+    let pre = c .before .before .before .before .before .before .pre in
+    better-lifted _ (pre .0) (pre .1) (record { touched = omega (arith, c .before .before .before .if1 .left); placed = omega (arith, c .before .if3 .left) }) (omega (arith, c .before .before .if2 .left))
 
 same-length-2 : tie.Need-same-length-2
 same-length-2 c = search needs
 
 returns-4 : tie.Need-returns-4
 unfolding keyOf slotOf
-returns-4 c = better-lowered _ (c .before .before .before .before .before .before .before .before .before .pre .0) (c .before .before .before .before .before .before .before .before .before .pre .1) (record { touched = omega (arith, c .before .before .before .before .before .before .if1 .left); placed = omega (arith, c .before .before .before .before .before .if2 .left) }) (omega (arith, c .before .before .before .before .if3 .left)) (c .before .before .sift-up2 .ensures)
+returns-4 c =
+    let pre = c .before .before .before .before .before .before .before .before .before .pre in
+    better-lowered _ (pre .0) (pre .1) (record { touched = omega (arith, c .before .before .before .before .before .before .if1 .left); placed = omega (arith, c .before .before .before .before .if3 .left) }) (omega (arith, c .before .before .before .before .before .if2 .left)) (c .before .before .sift-up2 .ensures)
 
 pub lower-spec : {M : Type 1} → statement M
 lower-spec =
@@ -69,8 +78,8 @@ lower-spec =
     add-result
     same-length
     returns
+    add-if2
     returns-2
-    add-if3
     returns-3
     add-sift-up-3
     sift-up-requires-2

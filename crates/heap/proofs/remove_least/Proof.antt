@@ -16,13 +16,21 @@ item-at-requires-2 : tie.Need-item-at-requires-2
 item-at-requires-2 c κs = search needs
 
 settle-requires : tie.Need-settle-requires
-settle-requires c κs = settle-asked (c .before .before .before .before .before .before .pre .0) (c .before .before .before .before .before .before .pre .1) (c .before .before .before .item-at .ensures)
+settle-requires c κs =
+    let pre = c .before .before .before .before .before .before .pre in
+    settle-asked (pre .0) (pre .1) (c .before .before .before .item-at .ensures)
 
-key-of-requires : tie.Need-key-of-requires
-key-of-requires c κs = last-asked _ (c .before .before .before .before .before .before .before .before .before .before .before .before .pre .0) (omega (arith, c .before .before .if1 .taken)) (c .before .before .before .before .before .before .before .item-at2 .ensures) (c .before .before .before .before .before .settle .ensures)
+key-at-requires : tie.Need-key-at-requires
+key-at-requires c κs =
+    let settled = c .before .before .before .before .before in
+    let read = settled .before .before .before .before in
+    last-asked (read .before .before .before .pre .0) (omega (arith, c .before .before .if1 .taken)) (read .item-at .ensures) (settled .settle .ensures)
 
 sift-down-requires : tie.Need-sift-down-requires
-sift-down-requires c κs = drop-asked (c .before .before .before .before .before .before .before .before .before .before .before .before .before .pre .0) (omega (arith, c .before .before .before .if1 .taken)) (c .before .before .before .before .before .before .before .before .before .before .item-at .ensures) (c .before .before .before .before .before .before .before .before .item-at2 .ensures) (c .before .before .before .before .before .before .settle .ensures) (c .key-of .ensures)
+sift-down-requires c κs =
+    let settled = c .before .before .before .before .before .before in
+    let read = settled .before .before .before .before in
+    drop-asked (read .before .before .before .pre .0) (omega (arith, c .before .before .before .if1 .taken)) (read .item-at .ensures) (settled .before .before .item-at2 .ensures) (settled .settle .ensures) (c .key-at .ensures)
 
 add-work : tie.Need-add-work
 add-work c = search needs
@@ -35,8 +43,8 @@ returns c =
     let pre = c .before .before .before .before .before .before .before .before .before .before .pre in
     let first = c .before .before .before .before .before .before .before .item-at .ensures in
     let last = c .before .before .before .before .before .item-at2 .ensures in
-    let marked = c .before .before .before .settle .ensures in
-    ⊎-elim (λ w. rw (w .7) (drop-removed (pre .0) (omega (arith, w .0 .taken)) first last marked (w .3 .ensures) (w .4 .ensures))) (λ w. rw (w .1) (one-done (pre .0) (pre .1) (omega (arith, w .0 .left)) first marked)) (c .if1 .came)
+    let leaving = c .before .before .before .settle .ensures in
+    ⊎-elim (λ w. rw (w .7) (drop-removed (pre .0) (omega (arith, w .0 .taken)) first last leaving (w .3 .ensures) (w .4 .ensures))) (λ w. rw (w .1) (one-done (pre .0) (pre .1) (omega (arith, w .0 .left)) first leaving)) (c .if1 .came)
 
 slice-write-work : tie.Need-slice-write-work
 slice-write-work c = let pre = c .before .before .before .before .before .before .before .before .before .before .pre in clear-asked (c .if1 .work) (pre .0) (pre .1) (returns c)
@@ -52,7 +60,7 @@ remove-least-spec =
     sub-rest
     item-at-requires-2
     settle-requires
-    key-of-requires
+    key-at-requires
     sift-down-requires
     add-work
     mul-work

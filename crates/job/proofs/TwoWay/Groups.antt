@@ -1,7 +1,9 @@
--- One law a group: reading it gives a good value exactly where the value's bits stand there and its rules hold.
+-- One law a group: reading it gives a good value exactly where the value's bits stand there and its rules
+-- hold.
 --     layerFields .. boxFields                  the fields of each group, in order
 --     inside-fits .. obstacle-fits              what is inside a good grid fits its fields
---     layer-placed .. obstacle-placed           a group stands there and fits, where it is whole and is the one that is read
+--     layer-placed .. obstacle-placed           a group stands there and fits, where it is whole and is the
+--                                               one that is read
 --     layer-read, box-read, obstacle-read       the law, for one
 --     lines-read, boxes-read, obstacles-read    the law, for so many one after the other
 -- Not here: the head (Heads), pins and nets (Nets).

@@ -1,14 +1,16 @@
--- The whole job, from its bits: reading it gives a good job exactly where the job's bits stand first, zero bits fill the last byte,
--- nothing follows, and the job keeps the rules.
---     jobHead, jobOf, readAfterHead     the head of a job; a job from its head and the rest; what is read after the head
---     job-placed                   a job's bits stand first where each of its parts stands at its place
---     after-good, good-after       the law for what is read after the head, one way and the other
---     bits-read                    the law
+-- The whole job, from its bits: reading it gives a good job exactly where the job's bits stand first, zero
+-- bits fill the last byte, nothing follows, and the job keeps the rules.
+--     jobHead, jobOf, readAfterHead    the head of a job; a job from its head and the rest; what is read
+--                                      after the head
+--     job-placed                       a job's bits stand first where each of its parts stands where it
+--                                      belongs
+--     after-good, good-after           the law for what is read after the head, one way and the other
+--     bits-read                        the law
 use Prim.Native.Nat.{ℕ, _+_, _*_}
 use native.Mathlib.Omega.{arith}
 use mathlib.Core.Path.{_≡_, refl}
 use mathlib.Core.Logic.{_↔_, Iff·rfl}
-use mathlib.Core.List.{List, []}
+use mathlib.Core.List.{List}
 use lib.ListN.{length}
 use Rattle.bits.specs.Bits.{AllBelow}
 use Rattle.job.specs.Job.{Layer, Obstacle, Net, Job}
@@ -26,7 +28,8 @@ use Rattle.job.proofs.TwoWay.Pins.{new-all}
 use Rattle.job.proofs.TwoWay.Nets.{nets-read}
 use Rattle.job.proofs.TwoWay.Filled.{Filled, filled-tail}
 
--- a job's bits stand first where those of its head, its layer lines, its obstacles and its nets stand at their places
+-- a job's bits stand first where those of its head, its layer lines, its obstacles and its nets stand where
+-- they belong
 pub job-placed : (B : List ℕ) (j : Job)
     → Placed B 0 (jobBits j)
     ↔ (Placed B 0 (headBits j)
@@ -89,7 +92,8 @@ module _ (B : List ℕ) (bits : AllBelow 2 B) where
   head-of : (j : Job) → GoodJob j → GoodHead (jobHead j)
   head-of j h = record { grid = h .grid; guide = h .guide; short = h .short; nets = h .nets; obstacles = h .obstacles }
 
-  -- bits are read as a job exactly where they are its groups, filled up with zero bits, and it keeps the rules
+  -- bits are read as a job exactly where they are its groups, filled up with zero bits, and it keeps the
+  -- rules
   pub bits-read : (j : Job) → (readBits B ≡ good j) ↔ (Filled B (jobBits j) × GoodJob j)
   unfolding readBits readAfterHead headBits
   bits-read j = (forth, back)

@@ -1,6 +1,7 @@
--- Groups read one after the other: one law for every run of groups. A state goes from group to group, and each group is told how
--- many come after it.
---     Run           a run of groups: how one is read, what its bits and its rules are, and how the rest goes on
+-- Groups read one after the other: one law for every run of groups. A state goes from group to group, and
+-- each group is told how many come after it.
+--     Run           a run of groups: how one is read, what its bits and its rules are, and how the rest goes
+--                   on
 --     many-read     reading a run is good exactly where its bits stand there and its rules hold
 --     groups-read   the same for groups of one width that are read with no state
 use Prim.Native.Nat.{ℕ, zero, suc, _+_}
@@ -15,7 +16,8 @@ use Rattle.job.proofs.Binds.{bind-good}
 use Rattle.job.proofs.TwoWay.Places.{Placed, placed-nil, placed-append}
 
 pub record Run (B : List ℕ) (S A : Type 0) : Type 1 where
-  -- one group: its bits, how many, its rules in a state and with so many groups after it, and the state behind it
+  -- one group: its bits, how many, its rules in a state and with so many groups after it, and the state
+  -- behind it
   pub bits : A → List ℕ
   pub width : A → ℕ
   pub wide : (x : A) → length (bits x) ≡ width x

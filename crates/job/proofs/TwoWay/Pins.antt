@@ -1,4 +1,5 @@
--- Pins that are all different: the reading compares each pin with the earlier ones, the rules compare each with the later ones.
+-- Pins that are all different: the reading compares each pin with the earlier ones, the rules compare each
+-- with the later ones.
 --     Clear                 none of these is one of the earlier
 --     New                   and these are all different too
 --     new-nil, new-all      no pins; no earlier pins

@@ -5,7 +5,8 @@
 --     placed-whole                 some bits that stand there are all there
 --     widths, length-groupBits     the bits that a group of fields takes
 --     Fits, FieldsAt               numbers fit their fields; the fields from a position on hold these numbers
---     group-placed                 a group of fields stands there and fits, where the group is whole and its fields hold its numbers
+--     group-placed                 a group of fields stands there and fits, where the group is whole and its
+--                                  fields hold its numbers
 use Prim.Native.Nat.{ℕ, _+_, _^_, _≤_, _<_}
 use native.Mathlib.Nat.{add-zero, zero-add}
 use native.Mathlib.Omega.{arith}

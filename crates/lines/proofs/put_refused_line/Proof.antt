@@ -1,5 +1,5 @@
--- `lines::put_refused_line` meets its contract: the five parts are put one after the other (`put-then`), and there is room for the digits
--- (`length-word`). Assumes nothing.
+-- `lines::put_refused_line` meets its contract: the five parts are put one after the other (`put-then`), and
+-- there is room for the digits (`length-word`). Assumes nothing.
 use borrow.Author.Needs.{needs}
 use mathlib.Core.List.{[], _∷_, _++_}
 use native.Mathlib.Omega.{arith}

@@ -1,5 +1,5 @@
 -- `tree::begin_tree` meets its contract.
-use mathlib.Core.Path.{sym, _∙_}
+use mathlib.Core.Path.{sym}
 use native.Mathlib.Omega.{arith}
 use Rattle.tree.proofs.Turns.{pin-vertex, begun-some, begun-none}
 use Rattle.tree.proofs.begin_tree.Statement.{statement}

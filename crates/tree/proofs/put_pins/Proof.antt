@@ -1,5 +1,5 @@
 -- `tree::put_pins` meets its contract: putting at the pins that are left gives what putting at all gives.
-use Prim.Native.Nat.{_≤_, _-_}
+use Prim.Native.Nat.{_-_}
 use mathlib.Core.Path.{_≡_, refl, sym, _∙_}
 use native.Mathlib.Omega.{arith}
 use lib.ListN.{take, drop}

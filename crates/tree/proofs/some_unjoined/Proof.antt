@@ -1,5 +1,5 @@
 -- `tree::some_unjoined` meets its contract: whether one of those left is unjoined is whether one of all is.
-use Prim.Native.Nat.{_≤_, _-_}
+use Prim.Native.Nat.{_-_}
 use mathlib.Core.Path.{_≡_, refl, sym, _∙_}
 use native.Mathlib.Omega.{arith}
 use lib.ListN.{take, drop}

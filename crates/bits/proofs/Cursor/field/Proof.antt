@@ -1,5 +1,6 @@
--- `bits::Cursor::field` meets its contract. The invariant, `Read`: what is read so far is the field of the bits passed. A turn reads the part
--- that lies in one byte (`read-turn`), and the measure is the number of bits still to read. Assumes nothing.
+-- `bits::Cursor::field` meets its contract. The invariant, `Read`: what is read so far is the field of the
+-- bits passed. A turn reads the part that lies in one byte (`read-turn`), and the measure is the number of
+-- bits still to read. Assumes nothing.
 use borrow.Author.Needs.{needs}
 use Prim.Native.Nat.{_%_}
 use native.Mathlib.Omega.{arith}

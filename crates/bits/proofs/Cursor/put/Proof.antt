@@ -1,5 +1,6 @@
--- `bits::Cursor::put` meets its contract. The invariant, `Put`: to put the bits that are left gives what putting all of them gave. A turn puts
--- the part that lies in one byte (`put-turn`), and the measure is the number of bits still to put. Assumes nothing.
+-- `bits::Cursor::put` meets its contract. The invariant, `Put`: to put the bits that are left gives what
+-- putting all of them gave. A turn puts the part that lies in one byte (`put-turn`), and the measure is the
+-- number of bits still to put. Assumes nothing.
 use borrow.Author.Needs.{needs}
 use mathlib.Core.Path.{ap, _∙_}
 use lib.ListN.{length}

@@ -1,4 +1,5 @@
--- `bits::Cursor::whole` meets its contract: enough bytes are there where enough bits are (`whole-test`). Assumes nothing.
+-- `bits::Cursor::whole` meets its contract: enough bytes are there where enough bits are (`whole-test`).
+-- Assumes nothing.
 use native.Mathlib.Omega.{arith}
 use Rattle.bits.proofs.Turn.{whole-test}
 use Rattle.bits.proofs.Cursor.whole.Statement.{statement}

@@ -1,5 +1,6 @@
--- `bits::part::in_byte` meets its contract: the first bits of the byte and the number's lowest bits, one after the other and moved to their
--- place, lose nothing and are a byte (`in-byte`, `byteWith-byte`). Assumes nothing.
+-- `bits::part::in_byte` meets its contract: the first bits of the byte and the number's lowest bits, one
+-- after the other and moved to their position, lose nothing and are a byte (`in-byte`, `byteWith-byte`).
+-- Assumes nothing.
 use Prim.Native.Nat.{_+_}
 use native.Mathlib.Nat.{lt-of-lt-of-le}
 use native.Mathlib.Omega.{arith}

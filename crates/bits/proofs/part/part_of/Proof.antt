@@ -1,4 +1,5 @@
--- `bits::part::part_of` meets its contract: a field in one byte is a shift and a remainder (`field-byte`). Assumes nothing.
+-- `bits::part::part_of` meets its contract: a field in one byte is a shift and a remainder (`field-byte`).
+-- Assumes nothing.
 use native.Mathlib.Omega.{arith}
 use Rattle.bits.proofs.Turn.{one-shl, one-shl-pos, field-byte}
 use Rattle.bits.proofs.part.part_of.Statement.{statement}

@@ -1,5 +1,5 @@
--- `bits::part::put_part` meets its contract: the one store puts all the bits (`put-in-byte`), and past the last byte nothing is put (`put-out`).
--- Assumes nothing.
+-- `bits::part::put_part` meets its contract: the one store puts all the bits (`put-in-byte`), and past the
+-- last byte nothing is put (`put-out`). Assumes nothing.
 use borrow.Author.Needs.{needs}
 use mathlib.Core.Path.{sym}
 use native.Mathlib.Omega.{arith}

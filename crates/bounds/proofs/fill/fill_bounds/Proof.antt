@@ -18,7 +18,9 @@ cheapest-requires-2 : tie.Need-cheapest-requires-2
 cheapest-requires-2 c κs = omega (arith, c .before .before .before .before .before .before .pre .0 .sized .small .layers)
 
 unjoined-box-requires : tie.Need-unjoined-box-requires
-unjoined-box-requires c κs = (c .before .before .before .before .before .before .before .pre .0 .sized .small, c .before .before .before .before .before .before .before .pre .2)
+unjoined-box-requires c κs =
+    let pre = c .before .before .before .before .before .before .before .pre in
+    (pre .0 .sized .small, pre .2)
 
 fill-axis-requires : tie.Need-fill-axis-requires
 fill-axis-requires c κs =

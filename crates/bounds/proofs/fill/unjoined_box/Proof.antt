@@ -46,8 +46,9 @@ loop-less c = omega (arith, c .before .before .before .loop-test .taken)
 
 loop-again : tie.Need-loop-again Inv-loop μ-loop
 loop-again c =
-    let i = c .before .before .before .before .loop .i in
-    let so-far = c .before .before .before .before .loop .inv .1 in
+    let loop = c .before .before .before .before .loop in
+    let i = loop .i in
+    let so-far = loop .inv .1 in
     let on = c .before .before .before .loop-test .taken in
     (omega (arith, on), ⊎-elim (λ w. rw (w .3) (box-turn _ _ _ i refl so-far (w .0 .taken) (w .1 .ensures) (w .2 .ensures))) (λ w. rw (w .1) (box-kept _ _ _ i refl so-far (w .0 .left))) (c .if1 .came))
 

@@ -1,4 +1,4 @@
--- `heap::cells::key_at` meets its contract: the place has its item's key.
+-- `heap::cells::key_at` meets its contract: the seat has its item's key.
 use borrow.Author.Needs.{needs}
 use Rattle.heap.specs.Heaps.{keyOf}
 use Rattle.heap.proofs.cells.key_at.Statement.{statement}

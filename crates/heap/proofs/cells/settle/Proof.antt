@@ -1,4 +1,4 @@
--- `heap::cells::settle` meets its contract: the key stays, and the slot is past every place.
+-- `heap::cells::settle` meets its contract: the key stays, and the slot is past every seat.
 use borrow.Author.Needs.{needs}
 use mathlib.Core.Path.{refl}
 use native.Mathlib.Omega.{arith}

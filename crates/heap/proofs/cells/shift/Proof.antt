@@ -1,4 +1,4 @@
--- `heap::cells::shift` meets its contract: the item at a place is put at another, with its own key.
+-- `heap::cells::shift` meets its contract: the item at a seat is put at another, with its own key.
 use borrow.Author.Needs.{needs}
 use Rattle.heap.proofs.Tests.{placed-from}
 use Rattle.heap.proofs.cells.shift.Statement.{statement}

@@ -1,4 +1,5 @@
--- `heap::sift::least_of_few` meets its contract: of the places so far the one with the least key. The places left are fewer.
+-- `heap::sift::least_of_few` meets its contract: of the seats so far the one with the least key. The seats
+-- left are fewer.
 use borrow.Author.Needs.{needs}
 use Prim.Native.Nat.{_-_, _≤_}
 use mathlib.Core.Logic.{⊎-elim}
@@ -10,13 +11,13 @@ use Rattle.heap.proofs.sift.least_of_few.Statement.{statement}
 use Rattle.heap.proofs.sift.least_of_few.Tie as tie
 
 abbrev Inv-loop : tie.InvT-loop
-Inv-loop work n first size least₀ place₀ least place = (Lowest n first place work least) × (place ≤ size)
+Inv-loop work n first size least₀ seat₀ least seat = (Lowest n first seat work least) × (seat ≤ size)
 
 abbrev μ-loop : tie.MeasureT-loop
-μ-loop work n first size least₀ place₀ least place = size - place
+μ-loop work n first size least₀ seat₀ least seat = size - seat
 
-add-place : tie.Need-add-place Inv-loop μ-loop
-add-place c = search needs
+add-seat : tie.Need-add-seat Inv-loop μ-loop
+add-seat c = search needs
 
 loop-holds : tie.Need-loop-holds Inv-loop μ-loop
 loop-holds c = (lowest-one _ refl, omega (arith, c .before .pre .1))
@@ -27,8 +28,8 @@ key-at-requires c κs = let low = c .before .loop .inv .0 in keyed-asked (c .bef
 key-at-requires-2 : tie.Need-key-at-requires-2 Inv-loop μ-loop
 key-at-requires-2 c κs = let low = c .before .before .loop .inv .0 in keyed-asked (c .before .before .before .before .pre .0) (low .from) (omega (arith, low .until, c .before .loop-test .taken))
 
-add-place-2 : tie.Need-add-place-2 Inv-loop μ-loop
-add-place-2 c = search needs
+add-seat-2 : tie.Need-add-seat-2 Inv-loop μ-loop
+add-seat-2 c = search needs
 
 loop-less : tie.Need-loop-less Inv-loop μ-loop
 loop-less c = search needs
@@ -51,4 +52,4 @@ returns c =
 pub least-of-few-spec : {M : Type 1} → statement M
 least-of-few-spec =
     tie.close
-    (tie.spec Inv-loop μ-loop add-place loop-holds key-at-requires key-at-requires-2 add-place-2 loop-less loop-again returns)
+    (tie.spec Inv-loop μ-loop add-seat loop-holds key-at-requires key-at-requires-2 add-seat-2 loop-less loop-again returns)

@@ -32,7 +32,9 @@ one-if-requires : tie.Need-one-if-requires
 one-if-requires c κs = search needs
 
 add-i : tie.Need-add-i
-add-i c = omega (arith, one-small (ltb (c .before .before .before .word-at2 .result) (c .before .before .before .before .word-at .result)) (c .one-if .ensures), c .before .before .before .before .before .before .pre .fits, c .before .before .before .before .before .before .pre .few)
+add-i c =
+    let pre = c .before .before .before .before .before .before .pre in
+    omega (arith, one-small (ltb (c .before .before .before .word-at2 .result) (c .before .before .before .before .word-at .result)) (c .one-if .ensures), pre .fits, pre .few)
 
 add-j : tie.Need-add-j
 add-j c = search needs
@@ -41,7 +43,9 @@ one-if-requires-2 : tie.Need-one-if-requires-2
 one-if-requires-2 c κs = search needs
 
 add-j-2 : tie.Need-add-j-2
-add-j-2 c = omega (arith, one-small (ltb (c .before .before .word-at4 .result) (c .before .before .before .word-at3 .result)) (c .one-if2 .ensures), c .before .before .before .before .before .before .before .pre .fits, c .before .before .before .before .before .before .before .pre .few)
+add-j-2 c =
+    let pre = c .before .before .before .before .before .before .before .pre in
+    omega (arith, one-small (ltb (c .before .before .word-at4 .result) (c .before .before .before .word-at3 .result)) (c .one-if2 .ensures), pre .fits, pre .few)
 
 lesser-requires : tie.Need-lesser-requires
 lesser-requires c κs = search needs

@@ -1,4 +1,4 @@
--- `heap::sift::lesser_child` meets its contract: the places below end with the heap, or there are four.
+-- `heap::sift::lesser_child` meets its contract: the seats below end with the heap, or there are four.
 use borrow.Author.Needs.{needs}
 use native.Mathlib.Nat.{le-refl}
 use native.Mathlib.Omega.{arith}

@@ -1,4 +1,5 @@
--- `heap::sift::sift_down` meets its contract: with the item in the hole the order holds everywhere but right below. The place grows.
+-- `heap::sift::sift_down` meets its contract: with the item in the hole the order holds everywhere but right
+-- below. The seat grows.
 use Prim.Native.Nat.{_-_}
 use native.Mathlib.Omega.{arith}
 use Rattle.heap.specs.Sifts.{placed}

@@ -1,4 +1,5 @@
--- `heap::sift::sift_up` meets its contract: with the item in the hole the order holds everywhere but there. The place falls.
+-- `heap::sift::sift_up` meets its contract: with the item in the hole the order holds everywhere but there.
+-- The seat falls.
 use native.Mathlib.Omega.{arith}
 use Rattle.heap.specs.Sifts.{placed}
 use mathlib.Core.Path.{_∙_}

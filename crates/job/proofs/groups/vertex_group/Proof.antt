@@ -16,7 +16,7 @@ unfolding vertexGroup
 returns c = rw (is-cut 19 _ _ (c .before .whole .ensures) (c .if1 .taken))
 
 -- all bits of the group, where it is whole
-all : (c : tie.Else1) → Left (c .before .before .before .args .s .now) (c .before .before .before .args .at) 19
+all : (c : tie.Else1) → (let args = c .before .before .before .args in Left (args .s .now) (args .at) 19)
 all c = all-left 19 (is-whole 19 _ _ (c .before .whole .ensures) (c .if1 .left)) (omega arith)
 
 field-requires : tie.Need-field-requires

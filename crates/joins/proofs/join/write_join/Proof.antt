@@ -2,7 +2,7 @@
 use native.Mathlib.Omega.{arith}
 use borrow.Author.Needs.{needs}
 use Rattle.rules.specs.Structs.{techBy}
-use Rattle.joins.proofs.Joining.{record-put, start-marked, written-none, written-first}
+use Rattle.joins.proofs.Joining.{record-put, start-led, written-none, written-first}
 use Rattle.joins.proofs.join.write_join.Statement.{statement}
 use Rattle.joins.proofs.join.write_join.Tie as tie
 
@@ -27,7 +27,7 @@ unfolding techBy
 put-start-requires c κs =
     let pre = c .before .before .before .before .before .before .before .before .pre in
     let (bounds, charted, lowest) = pre .2 .found (c .before .before .before .if1 .left) in
-    let f = start-marked _ _ _ (pre .0 .good) charted lowest in
+    let f = start-led _ _ _ (pre .0 .good) charted lowest in
     (record { small = pre .0 .sized .small; there = f .below }, omega (arith, pre .4))
 
 add-write-moves : tie.Need-add-write-moves
@@ -37,7 +37,7 @@ write-moves-requires : tie.Need-write-moves-requires
 write-moves-requires c κs =
     let pre = c .before .before .before .before .before .before .before .before .before .before .before .before .before .before .pre in
     let (bounds, charted, lowest) = pre .2 .found (c .before .before .before .before .before .before .before .before .before .if1 .left) in
-    let f = start-marked _ _ _ (pre .0 .good) charted lowest in
+    let f = start-led _ _ _ (pre .0 .good) charted lowest in
     let counted = c .before .before .before .before .before .before .before .count-moves .ensures in
     (pre .0, pre .1, (bounds, _, charted), lowest, pre .3, omega (arith, pre .4), omega (arith, f .few, counted), counted)
 
@@ -48,42 +48,42 @@ mul-put-cost : tie.Need-mul-put-cost
 mul-put-cost c =
     let pre = c .before .before .before .before .before .before .before .before .before .before .before .before .before .before .before .before .before .before .before .before .pre in
     let (bounds, charted, lowest) = pre .2 .found (c .before .before .before .before .before .before .before .before .before .before .before .before .before .before .before .if1 .left) in
-    let f = start-marked _ _ _ (pre .0 .good) charted lowest in
+    let f = start-led _ _ _ (pre .0 .good) charted lowest in
     omega (arith, pre .4, f .few, c .before .before .before .before .before .before .before .before .before .before .before .before .before .count-moves .ensures)
 
 add-put-cost-2 : tie.Need-add-put-cost-2
 add-put-cost-2 c =
     let pre = c .before .before .before .before .before .before .before .before .before .before .before .before .before .before .before .before .before .before .before .before .pre in
     let (bounds, charted, lowest) = pre .2 .found (c .before .before .before .before .before .before .before .before .before .before .before .before .before .before .before .if1 .left) in
-    let f = start-marked _ _ _ (pre .0 .good) charted lowest in
+    let f = start-led _ _ _ (pre .0 .good) charted lowest in
     omega (arith, pre .4, f .few, c .before .before .before .before .before .before .before .before .before .before .before .before .before .count-moves .ensures)
 
 put-cost-requires : tie.Need-put-cost-requires
 put-cost-requires c κs =
     let pre = c .before .before .before .before .before .before .before .before .before .before .before .before .before .before .before .before .before .before .before .before .pre in
     let (bounds, charted, lowest) = pre .2 .found (c .before .before .before .before .before .before .before .before .before .before .before .before .before .before .before .if1 .left) in
-    let f = start-marked _ _ _ (pre .0 .good) charted lowest in
+    let f = start-led _ _ _ (pre .0 .good) charted lowest in
     omega (arith, pre .4, f .few, c .before .before .before .before .before .before .before .before .before .before .before .before .before .count-moves .ensures)
 
 mul-t28 : tie.Need-mul-t28
 mul-t28 c =
     let pre = c .before .before .before .before .before .before .before .before .before .before .before .before .before .before .before .before .before .before .before .before .before .before .before .pre in
     let (bounds, charted, lowest) = pre .2 .found (c .before .before .before .before .before .before .before .before .before .before .before .before .before .before .before .before .before .before .if1 .left) in
-    let f = start-marked _ _ _ (pre .0 .good) charted lowest in
+    let f = start-led _ _ _ (pre .0 .good) charted lowest in
     omega (arith, pre .4, f .few, c .before .before .before .before .before .before .before .before .before .before .before .before .before .before .before .before .count-moves .ensures)
 
 add-t33 : tie.Need-add-t33
 add-t33 c =
     let pre = c .before .before .before .before .before .before .before .before .before .before .before .before .before .before .before .before .before .before .before .before .before .before .before .pre in
     let (bounds, charted, lowest) = pre .2 .found (c .before .before .before .before .before .before .before .before .before .before .before .before .before .before .before .before .before .before .if1 .left) in
-    let f = start-marked _ _ _ (pre .0 .good) charted lowest in
+    let f = start-led _ _ _ (pre .0 .good) charted lowest in
     omega (arith, pre .4, f .few, c .before .before .before .before .before .before .before .before .before .before .before .before .before .before .before .before .count-moves .ensures)
 
 add-t32 : tie.Need-add-t32
 add-t32 c =
     let pre = c .before .before .before .before .before .before .before .before .before .before .before .before .before .before .before .before .before .before .before .before .before .before .before .pre in
     let (bounds, charted, lowest) = pre .2 .found (c .before .before .before .before .before .before .before .before .before .before .before .before .before .before .before .before .before .before .if1 .left) in
-    let f = start-marked _ _ _ (pre .0 .good) charted lowest in
+    let f = start-led _ _ _ (pre .0 .good) charted lowest in
     omega (arith, pre .4, f .few, c .before .before .before .before .before .before .before .before .before .before .before .before .before .before .before .before .count-moves .ensures)
 
 same-length-2 : tie.Need-same-length-2
@@ -97,7 +97,7 @@ unfolding techBy
 returns-2 c =
     let pre = c .before .before .before .before .before .before .before .before .before .before .before .before .before .before .before .before .before .before .before .before .before .before .before .pre in
     let (bounds, charted, lowest) = pre .2 .found (c .before .before .before .before .before .before .before .before .before .before .before .before .before .before .before .before .before .before .if1 .left) in
-    let f = start-marked _ _ _ (pre .0 .good) charted lowest in
+    let f = start-led _ _ _ (pre .0 .good) charted lowest in
     let counted = c .before .before .before .before .before .before .before .before .before .before .before .before .before .before .before .before .count-moves .ensures in
     let walked = c .before .before .before .before .before .before .before .before .write-moves .ensures in
     written-first _ _ _ _ _ _ (f .record-is) (f .few) counted (walked .0) (walked .1 .0) (walked .1 .1 .0) (walked .1 .1 .1 .0)

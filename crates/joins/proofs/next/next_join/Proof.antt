@@ -20,20 +20,20 @@ settle-requires c κs =
     let filled = c .before .before .before .before .fill-bounds .ensures in
     (pre .0, pre .2, length-replicate {A = ℕ} 16384 0, filled .0, filled .1, pre .1)
 
-mark-found-requires : tie.Need-mark-found-requires
-mark-found-requires c κs =
+retrace-found-requires : tie.Need-retrace-found-requires
+retrace-found-requires c κs =
     let pre = c .before .before .before .before .before .before .before .before .before .before .before .before .before .before .before .before .before .pre in
     let filled = c .before .before .before .before .before .before .before .before .before .before .before .fill-bounds .ensures in
     (pre .0, pre .1, c .before .before .before .before .before .before .settle .ensures .0, filled .0, filled .1)
 
 write-join-requires : tie.Need-write-join-requires
-write-join-requires c κs = let pre = c .before .before .before .before .before .before .before .before .before .before .before .before .before .before .before .before .before .before .before .before .before .before .before .before .pre in (pre .0, pre .1, c .before .before .before .before .before .before .mark-found .ensures .0, pre .3, pre .4)
+write-join-requires c κs = let pre = c .before .before .before .before .before .before .before .before .before .before .before .before .before .before .before .before .before .before .before .before .before .before .before .before .pre in (pre .0, pre .1, c .before .before .before .before .before .before .retrace-found .ensures .0, pre .3, pre .4)
 
 places-requires : tie.Need-places-requires
 places-requires c κs = c .before .before .before .before .before .before .before .before .before .before .before .before .before .before .before .before .before .before .before .before .before .before .before .before .before .before .before .before .before .pre .0
 
 clear-requires : tie.Need-clear-requires
-clear-requires c κs = rw (c .before .places .ensures) (c .before .before .before .before .before .before .before .before .before .before .before .before .before .mark-found .ensures .1 .0)
+clear-requires c κs = rw (c .before .places .ensures) (c .before .before .before .before .before .before .before .before .before .before .before .before .before .retrace-found .ensures .1 .0)
 
 same-length : tie.Need-same-length
 same-length c = search needs
@@ -50,17 +50,17 @@ returns c =
     let pre = c .before .before .before .before .before .before .before .before .before .before .before .before .before .before .before .before .before .before .before .before .before .before .before .before .before .before .before .before .before .before .before .before .before .before .pre in
     let written = c .before .before .before .before .before .before .before .before .before .write-join .ensures in
     let cleared = c .before .before .clear .ensures in (
-      λ tree unjoined marked apart. written-joined _ _ _ _ _ _ _ (pre .0 .good) written tree unjoined marked apart,
+      λ tree unjoined led apart. written-joined _ _ _ _ _ _ _ (pre .0 .good) written tree unjoined led apart,
       (
         written .fits,
         (
-          λ v is. record-fewer _ _ _ _ v _ (rw (written .marked) at is),
-          work-back (c .before .before .before .before .places .ensures) (pre .2) (cleared .0) (cleared .1) (beyond-trans (c .before .before .before .before .before .before .before .before .before .before .before .before .before .before .before .before .mark-found .ensures .1 .1) (c .before .before .before .before .before .before .before .before .before .before .before .before .before .before .before .before .before .before .before .before .before .before .before .settle .ensures .1)),
+          λ v is. record-fewer _ _ _ _ v _ (rw (written .tree) at is),
+          work-back (c .before .before .before .before .places .ensures) (pre .2) (cleared .0) (cleared .1) (beyond-trans (c .before .before .before .before .before .before .before .before .before .before .before .before .before .before .before .before .retrace-found .ensures .1 .1) (c .before .before .before .before .before .before .before .before .before .before .before .before .before .before .before .before .before .before .before .before .before .before .before .settle .ensures .1)),
         ),
       ),
     )
 
 pub next-join-spec : {M : Type 1} → statement M
 next-join-spec =
-    tie.close (tie.spec fill-bounds-requires settle-requires mark-found-requires write-join-requires places-requires clear-requires same-length same-length-2
+    tie.close (tie.spec fill-bounds-requires settle-requires retrace-found-requires write-join-requires places-requires clear-requires same-length same-length-2
     same-length-3 returns)

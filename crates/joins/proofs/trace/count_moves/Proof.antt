@@ -38,7 +38,9 @@ code-of-requires : tie.Need-code-of-requires Inv-loop μ-loop
 code-of-requires c κs = code-asked ((c .before .before .before .before .pre) .0) _ ((c .before .before .loop) .inv .3 .good)
 
 lead-at-requires : tie.Need-lead-at-requires Inv-loop μ-loop
-lead-at-requires c κs = code-here ((c .before .before .before .before .before .pre) .0) _ ((c .before .before .before .loop) .inv .3 .good) ((c .code-of) .ensures) ((c .before .before .before .loop) .inv .2 .room)
+lead-at-requires c κs =
+    let so-far = c .before .before .before .loop .inv in
+    code-here ((c .before .before .before .before .before .pre) .0) _ (so-far .3 .good) ((c .code-of) .ensures) (so-far .2 .room)
 
 step-requires : tie.Need-step-requires Inv-loop μ-loop
 step-requires c κs =
@@ -54,32 +56,35 @@ enum-told c = search needs
 
 returns : tie.Need-returns Inv-loop μ-loop
 returns c =
-    let pre = (c .before .before .before .before .before .before .before .before .before .pre) in
+    let pre = c .before .before .before .before .before .before .before .before .before .pre in
     let so-far = (c .before .before .before .before .before .before .before .loop) .inv in
     let told = lead-read (pre .0) _ (so-far .2) _ (so-far .3 .good) ((c .before .before .before .before .code-of) .ensures) ((c .before .before .before .lead-at) .ensures) in
-    absurd (followed-legal (pre .0) _ (so-far .2) _ (so-far .3) (goes-on _ ((c .before .before .before .before .before .if1) .taken) ((c .before .before .before .before .before .before .ends-at) .ensures)) told ((c .before .before .step) .ensures _ ((c .before .before .before .before .before .before .before .before .before .pre) .0) ((c .before .before .before .before .before .before .before .before .before .pre) .1) refl) ((c .enum-told) .given .1))
+    absurd (followed-legal (pre .0) _ (so-far .2) _ (so-far .3) (goes-on _ ((c .before .before .before .before .before .if1) .taken) ((c .before .before .before .before .before .before .ends-at) .ensures)) told ((c .before .before .step) .ensures _ (pre .0) (pre .1) refl) ((c .enum-told) .given .1))
 
 add-count : tie.Need-add-count Inv-loop μ-loop
 add-count c =
+    let so-far = c .before .before .before .before .before .before .before .before .before .loop .inv in
     let pre = (c .before .before .before .before .before .before .before .before .before .before .before .pre) in
-    omega (arith, places-small (pre .0 .good), counting-room _ _ _ ((c .before .before .before .before .before .before .before .before .before .loop) .inv .2) (pre .0 .good) (pre .3) ((c .before .before .before .before .before .before .before .before .before .loop) .inv .3))
+    omega (arith, places-small (pre .0 .good), counting-room _ _ _ (so-far .2) (pre .0 .good) (pre .3) (so-far .3))
 
 loop-less : tie.Need-loop-less Inv-loop μ-loop
 loop-less c =
+    let so-far = c .before .before .before .before .before .before .before .before .before .loop .inv in
     let pre = (c .before .before .before .before .before .before .before .before .before .before .before .pre) in
-    omega (arith, counting-room _ _ _ ((c .before .before .before .before .before .before .before .before .before .loop) .inv .2) (pre .0 .good) (pre .3) ((c .before .before .before .before .before .before .before .before .before .loop) .inv .3))
+    omega (arith, counting-room _ _ _ (so-far .2) (pre .0 .good) (pre .3) (so-far .3))
 
 loop-again : tie.Need-loop-again Inv-loop μ-loop
 loop-again c =
-    let pre = (c .before .before .before .before .before .before .before .before .before .before .before .pre) in
+    let pre = c .before .before .before .before .before .before .before .before .before .before .before .pre in
     let so-far = (c .before .before .before .before .before .before .before .before .before .loop) .inv in
     let told = lead-read (pre .0) _ (so-far .2) _ (so-far .3 .good) ((c .before .before .before .before .before .before .code-of) .ensures) ((c .before .before .before .before .before .lead-at) .ensures) in
-    (so-far .0, so-far .1, so-far .2, followed-made (pre .0) _ (so-far .2) _ (so-far .3) (goes-on _ ((c .before .before .before .before .before .before .before .if1) .taken) ((c .before .before .before .before .before .before .before .before .ends-at) .ensures)) told ((c .before .before .before .before .step) .ensures _ ((c .before .before .before .before .before .before .before .before .before .before .before .pre) .0) ((c .before .before .before .before .before .before .before .before .before .before .before .pre) .1) refl) (pre .3) ((c .before .before .made) .given .1))
+    (so-far .0, so-far .1, so-far .2, followed-made (pre .0) _ (so-far .2) _ (so-far .3) (goes-on _ ((c .before .before .before .before .before .before .before .if1) .taken) ((c .before .before .before .before .before .before .before .before .ends-at) .ensures)) told ((c .before .before .before .before .step) .ensures _ (pre .0) (pre .1) refl) (pre .3) ((c .before .before .made) .given .1))
 
 returns-2 : tie.Need-returns-2 Inv-loop μ-loop
 returns-2 c =
+    let so-far = c .before .before .loop .inv in
     let pre = (c .before .before .before .before .pre) in
-    counting-done _ _ _ ((c .before .before .loop) .inv .2) (pre .0 .good) (pre .3) ((c .before .before .loop) .inv .3) (ends-here _ ((c .if1) .left) ((c .before .ends-at) .ensures))
+    counting-done _ _ _ (so-far .2) (pre .0 .good) (pre .3) (so-far .3) (ends-here _ ((c .if1) .left) ((c .before .ends-at) .ensures))
 
 pub count-moves-spec : {M : Type 1} → statement M
 count-moves-spec =

@@ -34,7 +34,9 @@ code-of-requires : tie.Need-code-of-requires Inv-loop μ-loop
 code-of-requires c κs = code-asked ((c .before .before .before .before .before .before .before .pre) .0) _ ((c .before .before .loop) .inv .3 .made .place)
 
 lead-at-requires : tie.Need-lead-at-requires Inv-loop μ-loop
-lead-at-requires c κs = code-here ((c .before .before .before .before .before .before .before .before .pre) .0) _ ((c .before .before .before .loop) .inv .3 .made .place) ((c .code-of) .ensures) ((c .before .before .before .loop) .inv .2 .room)
+lead-at-requires c κs =
+    let so-far = c .before .before .before .loop .inv in
+    code-here ((c .before .before .before .before .before .before .before .before .pre) .0) _ (so-far .3 .made .place) ((c .code-of) .ensures) (so-far .2 .room)
 
 step-requires : tie.Need-step-requires Inv-loop μ-loop
 step-requires c κs =
@@ -56,12 +58,14 @@ same-length-2 c = search needs
 
 returns : tie.Need-returns Inv-loop μ-loop
 returns c =
-    let charted = (c .before .before .before .before .before .before .before .loop) .inv .2 in
-    let inv = (c .before .before .before .before .before .before .before .loop) .inv .3 in
+    let so-far = c .before .before .before .before .before .before .before .loop .inv in
+    let pre = c .before .before .before .before .before .before .before .before .before .before .before .before .pre in
+    let charted = so-far .2 in
+    let inv = so-far .3 in
     let some = (c .before .before .before .before .before .before .loop-test) .taken in
-    let told = lead-read ((c .before .before .before .before .before .before .before .before .before .before .before .before .pre) .0) _ charted _ (inv .made .place) ((c .before .before .before .before .code-of) .ensures) ((c .before .before .before .lead-at) .ensures) in
-    let number = writing-number _ _ _ _ _ _ _ _ _ _ _ inv some ((c .before .before .before .before .before .before .before .before .before .before .before .before .pre) .0) charted told in
-    absurd (writing-legal _ _ _ _ _ _ _ _ _ _ _ inv some number ((c .before .before .step) .ensures _ ((c .before .before .before .before .before .before .before .before .before .before .before .before .pre) .0) ((c .before .before .before .before .before .before .before .before .before .before .before .before .pre) .1) refl) ((c .enum-told) .given .1))
+    let told = lead-read (pre .0) _ charted _ (inv .made .place) ((c .before .before .before .before .code-of) .ensures) ((c .before .before .before .lead-at) .ensures) in
+    let number = writing-number _ _ _ _ _ _ _ _ _ _ _ inv some (pre .0) charted told in
+    absurd (writing-legal _ _ _ _ _ _ _ _ _ _ _ inv some number ((c .before .before .step) .ensures _ (pre .0) (pre .1) refl) ((c .enum-told) .given .1))
 
 put-requires : tie.Need-put-requires Inv-loop μ-loop
 put-requires c κs =
@@ -71,24 +75,26 @@ put-requires c κs =
 enter-move-requires : tie.Need-enter-move-requires Inv-loop μ-loop
 unfolding techBy
 enter-move-requires c κs =
-    let charted = (c .before .before .before .before .before .before .before .before .before .before .before .before .before .before .loop) .inv .2 in
-    let inv = (c .before .before .before .before .before .before .before .before .before .before .before .before .before .before .loop) .inv .3 in
+    let so-far = c .before .before .before .before .before .before .before .before .before .before .before .before .before .before .loop .inv in
+    let charted = so-far .2 in
+    let inv = so-far .3 in
     let some = (c .before .before .before .before .before .before .before .before .before .before .before .before .before .loop-test) .taken in
-    let pre = (c .before .before .before .before .before .before .before .before .before .before .before .before .before .before .before .before .before .before .before .pre) in
+    let pre = c .before .before .before .before .before .before .before .before .before .before .before .before .before .before .before .before .before .before .before .pre in
     let told = lead-read (pre .0) _ charted _ (inv .made .place) ((c .before .before .before .before .before .before .before .before .before .before .before .code-of) .ensures) ((c .before .before .before .before .before .before .before .before .before .before .lead-at) .ensures) in
     let number = writing-number _ _ _ _ _ _ _ _ _ _ _ inv some (pre .0) charted told in
-    let new = writing-fits _ _ _ _ _ _ _ _ _ _ _ inv some number ((c .before .before .before .before .before .before .before .before .before .step) .ensures _ ((c .before .before .before .before .before .before .before .before .before .before .before .before .before .before .before .before .before .before .before .pre) .0) ((c .before .before .before .before .before .before .before .before .before .before .before .before .before .before .before .before .before .before .before .pre) .1) refl) _ ((c .before .before .before .before .before .before .before .made) .given .1) (pre .0) in
+    let new = writing-fits _ _ _ _ _ _ _ _ _ _ _ inv some number ((c .before .before .before .before .before .before .before .before .before .step) .ensures _ (pre .0) (pre .1) refl) _ ((c .before .before .before .before .before .before .before .made) .given .1) (pre .0) in
     (pre .0 .sized, inv .made .place .vertex, new .place .vertex, omega (arith, pre .4, inv .size))
 
 walk-on-requires : tie.Need-walk-on-requires Inv-loop μ-loop
 walk-on-requires c κs =
-    let charted = (c .before .before .before .before .before .before .before .before .before .before .before .before .before .before .before .before .before .loop) .inv .2 in
-    let inv = (c .before .before .before .before .before .before .before .before .before .before .before .before .before .before .before .before .before .loop) .inv .3 in
+    let so-far = c .before .before .before .before .before .before .before .before .before .before .before .before .before .before .before .before .before .loop .inv in
+    let charted = so-far .2 in
+    let inv = so-far .3 in
     let some = (c .before .before .before .before .before .before .before .before .before .before .before .before .before .before .before .before .loop-test) .taken in
-    let pre = (c .before .before .before .before .before .before .before .before .before .before .before .before .before .before .before .before .before .before .before .before .before .before .pre) in
+    let pre = c .before .before .before .before .before .before .before .before .before .before .before .before .before .before .before .before .before .before .before .before .before .before .pre in
     let told = lead-read (pre .0) _ charted _ (inv .made .place) ((c .before .before .before .before .before .before .before .before .before .before .before .before .before .before .code-of) .ensures) ((c .before .before .before .before .before .before .before .before .before .before .before .before .before .lead-at) .ensures) in
     let number = writing-number _ _ _ _ _ _ _ _ _ _ _ inv some (pre .0) charted told in
-    let new = writing-fits _ _ _ _ _ _ _ _ _ _ _ inv some number ((c .before .before .before .before .before .before .before .before .before .before .before .before .step) .ensures _ ((c .before .before .before .before .before .before .before .before .before .before .before .before .before .before .before .before .before .before .before .before .before .before .pre) .0) ((c .before .before .before .before .before .before .before .before .before .before .before .before .before .before .before .before .before .before .before .before .before .before .pre) .1) refl) _ ((c .before .before .before .before .before .before .before .before .before .before .made) .given .1) (pre .0) in (
+    let new = writing-fits _ _ _ _ _ _ _ _ _ _ _ inv some number ((c .before .before .before .before .before .before .before .before .before .before .before .before .step) .ensures _ (pre .0) (pre .1) refl) _ ((c .before .before .before .before .before .before .before .before .before .before .made) .given .1) (pre .0) in (
       omega (arith, inv .made .cost, pre .6),
       omega (arith, inv .made .added, pre .6),
       omega (arith, inv .made .penalties, pre .6),
@@ -106,13 +112,16 @@ loop-less c = omega (arith, (c .before .before .before .before .before .before .
 
 loop-again : tie.Need-loop-again Inv-loop μ-loop
 loop-again c =
-    let charted = (c .before .before .before .before .before .before .before .before .before .before .before .before .before .before .before .before .before .before .loop) .inv .2 in
-    let inv = (c .before .before .before .before .before .before .before .before .before .before .before .before .before .before .before .before .before .before .loop) .inv .3 in
+    let so-far = c .before .before .before .before .before .before .before .before .before .before .before .before .before .before .before .before .before .before .loop .inv in
+    let entered = c .before .before .before .enter-move .ensures in
+    let written = c .before .before .before .before .before .before .before .before .put .ensures in
+    let charted = so-far .2 in
+    let inv = so-far .3 in
     let some = (c .before .before .before .before .before .before .before .before .before .before .before .before .before .before .before .before .before .loop-test) .taken in
-    let pre = (c .before .before .before .before .before .before .before .before .before .before .before .before .before .before .before .before .before .before .before .before .before .before .before .pre) in
+    let pre = c .before .before .before .before .before .before .before .before .before .before .before .before .before .before .before .before .before .before .before .before .before .before .before .pre in
     let told = lead-read (pre .0) _ charted _ (inv .made .place) ((c .before .before .before .before .before .before .before .before .before .before .before .before .before .before .before .code-of) .ensures) ((c .before .before .before .before .before .before .before .before .before .before .before .before .before .before .lead-at) .ensures) in
     let number = writing-number _ _ _ _ _ _ _ _ _ _ _ inv some (pre .0) charted told in
-    ((c .before .before .before .before .before .before .before .before .before .before .before .before .before .before .before .before .before .before .loop) .inv .0, (c .before .before .before .before .before .before .before .before .before .before .before .before .before .before .before .before .before .before .loop) .inv .1, charted, writing-on _ _ _ _ _ _ _ _ _ _ _ inv some number ((c .before .before .before .before .before .before .before .before .before .before .before .before .before .step) .ensures _ ((c .before .before .before .before .before .before .before .before .before .before .before .before .before .before .before .before .before .before .before .before .before .before .before .pre) .0) ((c .before .before .before .before .before .before .before .before .before .before .before .before .before .before .before .before .before .before .before .before .before .before .before .pre) .1) refl) _ ((c .before .before .before .before .before .before .before .before .before .before .before .made) .given .1) (pre .0) charted ((c .before .before .before .enter-move) .ensures .1) ((c .before .before .before .enter-move) .ensures .0) ((c .before .before .before .before .before .before .before .before .put) .ensures .1) ((c .before .before .before .before .before .before .before .before .put) .ensures .0) ((c .walk-on) .ensures))
+    (so-far .0, so-far .1, charted, writing-on _ _ _ _ _ _ _ _ _ _ _ inv some number ((c .before .before .before .before .before .before .before .before .before .before .before .before .before .step) .ensures _ (pre .0) (pre .1) refl) _ ((c .before .before .before .before .before .before .before .before .before .before .before .made) .given .1) (pre .0) charted (entered .1) (entered .0) (written .1) (written .0) ((c .walk-on) .ensures))
 
 same-length-3 : tie.Need-same-length-3 Inv-loop μ-loop
 same-length-3 c = search needs

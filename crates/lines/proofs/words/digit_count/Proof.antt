@@ -1,5 +1,5 @@
--- `lines::words::digit_count` meets its contract. The invariant, `Tenths`: the digits counted and those of the rest are one more than the number's.
--- The measure is the rest. Assumes nothing.
+-- `lines::words::digit_count` meets its contract. The invariant, `Tenths`: the digits counted and those of
+-- the rest are one more than the number's. The measure is the rest. Assumes nothing.
 use mathlib.Core.Path.{refl}
 use native.Mathlib.Omega.{arith}
 use Rattle.lines.proofs.Turn.{Tenths, tenths-turn, tenths-done}

@@ -1,5 +1,6 @@
--- `lines::words::put_decimal` meets its contract. The invariant, `Spelt`: to put the digits of the rest gives what putting all of them gave, and the
--- last of them goes to `last`. The measure is the rest. Assumes nothing.
+-- `lines::words::put_decimal` meets its contract. The invariant, `Spelt`: to put the digits of the rest gives
+-- what putting all of them gave, and the last of them goes to `last`. The measure is the rest. Assumes
+-- nothing.
 use borrow.Author.Needs.{needs}
 use Prim.Native.Nat.{_/_}
 use mathlib.Core.Path.{refl}
@@ -29,7 +30,7 @@ loop-holds c =
     let number = c .before .before .args .number in
     record {
       to-put = record { same = refl; kept = refl };
-      place = omega (arith, c .digit-count .ensures, length-decimal number);
+      position = omega (arith, c .digit-count .ensures, length-decimal number);
       within = omega (arith, c .digit-count .ensures, length-decimal number);
     }
 

@@ -1,4 +1,5 @@
--- `maizespell::line::routed_line` meets its contract: routing is refused, or its plan is written and has room.
+-- `maizespell::line::routed_line` meets its contract: routing is refused, or its plan is written and has
+-- room.
 use borrow.Author.Needs.{needs}
 use native.Mathlib.Omega.{arith}
 use Rattle.maizespell.proofs.Cases.{routed-refused, routed-plan, routed-room}

@@ -7,10 +7,10 @@ use Rattle.metal.proofs.codes.put_obstacles.Statement.{statement}
 use Rattle.metal.proofs.codes.put_obstacles.Tie as tie
 
 abbrev Inv-loop : tie.InvT-loop
-Inv-loop map₀ marks count v₀ map v = Putting marks count map₀ v map
+Inv-loop map₀ occupants count v₀ map v = Putting occupants count map₀ v map
 
 abbrev μ-loop : tie.MeasureT-loop
-μ-loop map₀ marks count v₀ map v = count - v
+μ-loop map₀ occupants count v₀ map v = count - v
 
 loop-holds : tie.Need-loop-holds Inv-loop μ-loop
 loop-holds c = putting-begun _ _ _ (c .pre .1)

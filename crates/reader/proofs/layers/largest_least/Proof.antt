@@ -1,4 +1,5 @@
--- `reader::layers::largest_least` meets its contract: the largest so far and the largest of what is left make the largest of all.
+-- `reader::layers::largest_least` meets its contract: the largest so far and the largest of what is left make
+-- the largest of all.
 use Prim.Native.Nat.{_-_, _<_, _≤_, max}
 use mathlib.Core.Path.{_≡_, sym, _∙_}
 use mathlib.Core.Logic.{⊎-elim}
@@ -38,15 +39,17 @@ loop-less c = omega arith
 
 loop-again : tie.Need-loop-again Inv-loop μ-loop
 loop-again c =
-    let least = c .before .before .before .before .args .layers .least in
-    let more : c .before .before .loop .layer < length least = omega (arith, c .before .before .before .before .pre, c .before .loop-test .taken) in
+    let start = c .before .before .before .before in
+    let least = start .args .layers .least in
+    let more : c .before .before .loop .layer < length least = omega (arith, start .pre, c .before .loop-test .taken) in
     let turn = largest-turn least (c .before .before .loop .layer) (c .before .before .loop .largest) more in
     ⊎-elim (λ w. omega (arith, turn, c .before .before .loop .inv, w .0 .taken, w .1)) (λ w. omega (arith, turn, c .before .before .loop .inv, w .0 .left, w .1)) (c .if1 .came)
 
 returns : tie.Need-returns Inv-loop μ-loop
 returns c =
-    let least = c .before .before .before .args .layers .least in
-    let done : length least ≤ c .before .loop .layer = omega (arith, c .before .before .before .pre, c .loop-test .left) in
+    let start = c .before .before .before in
+    let least = start .args .layers .least in
+    let done : length least ≤ c .before .loop .layer = omega (arith, start .pre, c .loop-test .left) in
     sym (largest-done least (c .before .loop .layer) (c .before .loop .largest) done) ∙ c .before .loop .inv
 
 pub largest-least-spec : {M : Type 1} → statement M

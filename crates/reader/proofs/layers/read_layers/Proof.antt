@@ -1,4 +1,5 @@
--- `reader::layers::read_layers` meets its contract: the lines read so far, ahead of those still to be read, are what reading all gives.
+-- `reader::layers::read_layers` meets its contract: the lines read so far, ahead of those still to be read,
+-- are what reading all gives.
 use Prim.Native.Nat.{_-_}
 use mathlib.Core.Path.{sym, _∙_}
 use borrow.Author.Needs.{needs}

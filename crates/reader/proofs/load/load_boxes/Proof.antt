@@ -1,5 +1,5 @@
--- `reader::load::load_boxes` meets its contract. The loop's invariant: the boxes stored so far, then the numbers of those that are left, are all boxes.
--- The measure is the number of boxes that are left.
+-- `reader::load::load_boxes` meets its contract. The loop's invariant: the boxes stored so far, then the
+-- numbers of those that are left, are all boxes. The measure is the number of boxes that are left.
 use borrow.Author.Needs.{needs}
 use native.Mathlib.Omega.{arith}
 use Rattle.bits.specs.Bits.{bitsOf}

@@ -1,4 +1,5 @@
--- `reader::load::load_net` meets its contract: the net's head stands at the bit, and the bits of all that it counts are there.
+-- `reader::load::load_net` meets its contract: the net's head stands at the bit, and the bits of all that it
+-- counts are there.
 use borrow.Author.Needs.{needs}
 use mathlib.Core.Path.{sym}
 use native.Mathlib.Omega.{arith}

@@ -1,5 +1,5 @@
--- `reader::load::load_pins` meets its contract. The loop's invariant: the pins stored so far, then the numbers of those that are left, are all pins.
--- The measure is the number of pins that are left.
+-- `reader::load::load_pins` meets its contract. The loop's invariant: the pins stored so far, then the
+-- numbers of those that are left, are all pins. The measure is the number of pins that are left.
 use borrow.Author.Needs.{needs}
 use Prim.Native.Nat.{_-_}
 use mathlib.Core.Path.{_≡_}

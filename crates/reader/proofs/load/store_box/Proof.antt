@@ -1,4 +1,4 @@
--- `reader::load::store_box` meets its contract: six places one after the other, each stored once.
+-- `reader::load::store_box` meets its contract: six positions one after the other, each stored once.
 use borrow.Author.Needs.{needs}
 use Prim.Native.Nat.{suc, _+_}
 use mathlib.Core.Path.{_≡_}

@@ -1,4 +1,5 @@
--- `reader::tail::read_tail` meets its contract: where fewer than eight bits are left, the field of all of them says whether they are zero.
+-- `reader::tail::read_tail` meets its contract: where fewer than eight bits are left, the field of all of
+-- them says whether they are zero.
 use Prim.Native.Nat.{ℕ, _-_, _*_, _≤_, _<_}
 use borrow.Author.Needs.{needs}
 use borrow.Author.Tests.{lt-ltb, le-ltb, eq-eqb, ne-eqb}
@@ -12,7 +13,7 @@ use Rattle.bits.specs.Bits.{bitsOf, field, number}
 use Rattle.bits.specs.declared.FieldRead.{FieldRead}
 use Rattle.bits.proofs.Laws.{length-bitsOf}
 use Rattle.job.specs.Reading.{readTail, rule, refused}
-use Rattle.marks.specs.Structs.{manyReached}
+use Rattle.occupants.specs.Structs.{manyReached}
 use Rattle.reader.proofs.tail.read_tail.Statement.{statement}
 use Rattle.reader.proofs.tail.read_tail.Tie as tie
 

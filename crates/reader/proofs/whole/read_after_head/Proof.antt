@@ -1,7 +1,8 @@
--- `reader::whole::read_after_head` meets its contract: a layer line is refused, something after the lines is, or the job is good.
+-- `reader::whole::read_after_head` meets its contract: a layer line is refused, something after the lines is,
+-- or the job is good.
 use mathlib.Core.Path.{sym, _∙_}
 use borrow.Author.Needs.{needs}
-use Rattle.marks.proofs.Marking.{bare-marks}
+use Rattle.occupants.proofs.Covering.{bare-occupants}
 use Rattle.reader.proofs.AfterHead.{told-refused-job, lines-refused-job, rest-refused-job, rest-good-job}
 use Rattle.reader.proofs.whole.read_after_head.Statement.{statement}
 use Rattle.reader.proofs.whole.read_after_head.Tie as tie
@@ -33,14 +34,15 @@ refused-job-requires-2 c κs = search needs
 returns : tie.Need-returns
 returns c =
     let p = c .before .before .before .before .before .before .before .before .before .before .pre in
-    let told = rest-good-job _ _ (c .before .before .before .before .before .before .before .before .read-layers .ensures) _ _ (c .before .before .before .before .before .enum-told .given .1) (p .0 .1 .vertices) (bare-marks _ (p .1)) _ (sym (c .before .before .before .read-groups .ensures .0) ∙ c .before .groups .given .1) in
-    rw (c .before .before .before .read-groups .ensures .1) told
+    let read = c .before .before .before .read-groups .ensures in
+    let told = rest-good-job _ _ (c .before .before .before .before .before .before .before .before .read-layers .ensures) _ _ (c .before .before .before .before .before .enum-told .given .1) (p .0 .1 .vertices) (bare-occupants _ (p .1)) _ (sym (read .0) ∙ c .before .groups .given .1) in
+    rw (read .1) told
 
 returns-2 : tie.Need-returns-2
 returns-2 c =
     let p = c .before .before .before .before .before .before .before .before .before .before .before .pre in
     told-refused-job _ _
-    (rest-refused-job _ _ (c .before .before .before .before .before .before .before .before .before .read-layers .ensures) _ _ (c .before .before .before .before .before .before .enum-told .given .1) (p .0 .1 .vertices) (bare-marks _ (p .1)) _ _ (sym (c .before .before .before .before .read-groups .ensures .0) ∙ c .before .before .groups2 .given .1))
+    (rest-refused-job _ _ (c .before .before .before .before .before .before .before .before .before .read-layers .ensures) _ _ (c .before .before .before .before .before .before .enum-told .given .1) (p .0 .1 .vertices) (bare-occupants _ (p .1)) _ _ (sym (c .before .before .before .before .read-groups .ensures .0) ∙ c .before .before .groups2 .given .1))
     (c .refused-job .ensures)
 
 returns-3 : tie.Need-returns-3

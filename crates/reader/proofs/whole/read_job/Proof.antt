@@ -1,4 +1,5 @@
--- `reader::whole::read_job` meets its contract: the bytes are too many, the head is refused, or what follows it decides.
+-- `reader::whole::read_job` meets its contract: the bytes are too many, the head is refused, or what follows
+-- it decides.
 use mathlib.Core.Path.{sym, _∙_}
 use borrow.Author.Needs.{needs}
 use Rattle.reader.proofs.AfterHead.{told-refused-job}
@@ -20,8 +21,9 @@ enum-known-read c = search needs
 
 read-after-head-requires : tie.Need-read-after-head-requires
 read-after-head-requires c κs =
-    let h = job-past-head _ _ (c .before .before .before .before .before .if1 .left) (sym (c .before .before .before .before .read-head .ensures) ∙ c .before .before .read .given .1) in
-    ((c .before .before .before .before .before .if1 .left, h .sized, h .nets, h .obstacles), c .before .before .before .before .before .before .before .pre)
+    let fits = c .before .before .before .before .before .if1 .left in
+    let h = job-past-head _ _ fits (sym (c .before .before .before .before .read-head .ensures) ∙ c .before .before .read .given .1) in
+    ((fits, h .sized, h .nets, h .obstacles), c .before .before .before .before .before .before .before .pre)
 
 enum-known-read-2 : tie.Need-enum-known-read-2
 enum-known-read-2 c = search needs

@@ -27,13 +27,15 @@ returns c = (ended-refused _ _ (c .before .moves .given .1), tt)
 
 returns-2 : tie.Need-returns-2
 unfolding JoinFits MovesFit
-returns-2 c = (
-  ended-same _ _ (c .before .before .before .before .before .moves2 .given .1) (c .before .before .before .read-cost .ensures) (c .before .reached .given .1),
-  (
-    rw (c .before .before .before .before .before .moves2 .given .1) at (c .before .before .before .before .before .before .before .before .pre .1),
-    omega (arith, cost-next _ _ _ (c .before .before .before .read-cost .ensures) (c .before .reached .given .1)),
-  ),
-)
+returns-2 c =
+    let moves = c .before .before .before .before .before .moves2 .given .1 in
+    let cost = c .before .before .before .read-cost .ensures in (
+      ended-same _ _ moves cost (c .before .reached .given .1),
+      (
+        rw moves at (c .before .before .before .before .before .before .before .before .pre .1),
+        omega (arith, cost-next _ _ _ cost (c .before .reached .given .1)),
+      ),
+    )
 
 returns-3 : tie.Need-returns-3
 unfolding JoinFits

@@ -8,7 +8,9 @@ use Rattle.replay.proofs.join.read_join.Statement.{statement}
 use Rattle.replay.proofs.join.read_join.Tie as tie
 
 read-start-requires : tie.Need-read-start-requires
-read-start-requires c κs = (c .before .before .before .pre .0 .sized, omega (arith, c .before .before .before .pre .3))
+read-start-requires c κs =
+    let pre = c .before .before .before .pre in
+    (pre .0 .sized, omega (arith, pre .3))
 
 enum-known-start : tie.Need-enum-known-start
 enum-known-start c = search needs
@@ -22,7 +24,8 @@ add-read-moves c = omega (arith, c .before .before .before .before .before .befo
 read-moves-requires : tie.Need-read-moves-requires
 read-moves-requires c κs =
     let b = start-bounds _ _ _ _ (bitsOf-bits _) (c .before .before .before .before .before .read-start .ensures) (c .before .before .before .start2 .given .1) in
-    (c .before .before .before .before .before .before .before .before .before .pre .0, c .before .before .before .before .before .before .before .before .before .pre .1, c .before .before .before .before .before .before .before .before .before .pre .2, b .0, b .1, omega (arith, c .before .before .before .before .before .before .before .before .before .pre .3))
+    let pre = c .before .before .before .before .before .before .before .before .before .pre in
+    (pre .0, pre .1, pre .2, b .0, b .1, omega (arith, pre .3))
 
 add-end-join : tie.Need-add-end-join
 add-end-join c = omega (arith, c .before .before .before .before .before .before .before .before .before .before .before .before .pre .3)
@@ -47,9 +50,12 @@ same-length c = search needs
 returns-2 : tie.Need-returns-2
 unfolding techBy
 returns-2 c =
-    started-join _ _ _ _ _ _ (c .before .before .before .before .before .before .before .before .before .read-start .ensures) _ _ (c .before .before .before .before .before .before .before .start2 .given .1)
-    (start-bounds _ _ _ _ (bitsOf-bits _) (c .before .before .before .before .before .before .before .before .before .read-start .ensures) (c .before .before .before .before .before .before .before .start2 .given .1) .1)
-    (c .before .before .before .read-moves .ensures .0) (c .before .before .before .read-moves .ensures .1 .1 .0) (c .before .before .before .read-moves .ensures .1 .1 .1) (c .end-join .ensures .0) (c .end-join .ensures .1)
+    let read = c .before .before .before .before .before .before .before .before .before .read-start .ensures in
+    let start = c .before .before .before .before .before .before .before .start2 .given .1 in
+    let moves = c .before .before .before .read-moves .ensures in
+    started-join _ _ _ _ _ _ read _ _ start
+    (start-bounds _ _ _ _ (bitsOf-bits _) read start .1)
+    (moves .0) (moves .1 .1 .0) (moves .1 .1 .1) (c .end-join .ensures .0) (c .end-join .ensures .1)
 
 pub read-join-spec : {M : Type 1} → statement M
 read-join-spec =

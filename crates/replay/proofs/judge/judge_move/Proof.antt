@@ -23,7 +23,10 @@ field-requires c κs = room tt (all-left 2 (is-whole 2 _ _ (c .before .whole .en
 
 step-requires : tie.Need-step-requires
 unfolding techBy
-step-requires c κs = let pre = c .before .before .before .before .pre in ((_, pre .0 .tech, pre .1, refl), pre .0 .place .vertex, place-short (c .before .before .before .before .args .place) (pre .0))
+step-requires c κs =
+    let start = c .before .before .before .before in
+    let pre = start .pre in
+    ((_, pre .0 .tech, pre .1, refl), pre .0 .place .vertex, place-short (start .args .place) (pre .0))
 
 enum-known-made : tie.Need-enum-known-made
 enum-known-made c = search needs
@@ -34,24 +37,29 @@ enum-told c = search needs
 returns-2 : tie.Need-returns-2
 unfolding techBy
 returns-2 c =
+    let pre = c .before .before .before .before .before .before .before .pre in
     judged-illegal _ _ _ _ _ _ _ (is-whole 2 _ _ (c .before .before .before .before .before .whole .ensures) (c .before .before .before .before .if1 .left)) (ap (λ (t : FieldRead). t .value) (c .before .before .before .field .ensures))
-    (c .before .before .step .ensures _ (c .before .before .before .before .before .before .before .pre .0 .tech) (c .before .before .before .before .before .before .before .pre .1) refl) (c .enum-told .given .1)
+    (c .before .before .step .ensures _ (pre .0 .tech) (pre .1) refl) (c .enum-told .given .1)
 
 element-copy-out-pin : tie.Need-element-copy-out-pin
 unfolding techBy
-element-copy-out-pin c = made-below (c .before .before .before .before .before .before .before .before .args .place) _ _ (c .before .before .before .before .before .before .before .before .pre .0) (c .before .before .before .step .ensures _ (c .before .before .before .before .before .before .before .before .pre .0 .tech) (c .before .before .before .before .before .before .before .before .pre .1) refl) (c .before .made .given .1)
+element-copy-out-pin c =
+    let start = c .before .before .before .before .before .before .before .before in
+    made-below (start .args .place) _ _ (start .pre .0) (c .before .before .before .step .ensures _ (start .pre .0 .tech) (start .pre .1) refl) (c .before .made .given .1)
 
 returns-3 : tie.Need-returns-3
 unfolding techBy
 returns-3 c =
-    judged-other _ _ _ (c .before .before .before .before .before .before .before .before .before .before .args .spots .now) (c .before .before .before .before .before .before .before .before .before .before .args .last) _ _ (is-whole 2 _ _ (c .before .before .before .before .before .before .before .before .whole .ensures) (c .before .before .before .before .before .before .before .if1 .left)) (ap (λ (t : FieldRead). t .value) (c .before .before .before .before .before .before .field .ensures))
-    (c .before .before .before .before .before .step .ensures _ (c .before .before .before .before .before .before .before .before .before .before .pre .0 .tech) (c .before .before .before .before .before .before .before .before .before .before .pre .1) refl) (c .before .before .before .made .given .1) (tests-differ _ _ (c .if2 .taken))
+    let start = c .before .before .before .before .before .before .before .before .before .before in
+    judged-other _ _ _ (start .args .spots .now) (start .args .last) _ _ (is-whole 2 _ _ (c .before .before .before .before .before .before .before .before .whole .ensures) (c .before .before .before .before .before .before .before .if1 .left)) (ap (λ (t : FieldRead). t .value) (c .before .before .before .before .before .before .field .ensures))
+    (c .before .before .before .before .before .step .ensures _ (start .pre .0 .tech) (start .pre .1) refl) (c .before .before .before .made .given .1) (tests-differ _ _ (c .if2 .taken))
 
 returns-4 : tie.Need-returns-4
 unfolding techBy
 returns-4 c =
-    judged-good _ _ _ (c .before .before .before .before .before .before .before .before .before .before .args .spots .now) (c .before .before .before .before .before .before .before .before .before .before .args .last) _ _ (is-whole 2 _ _ (c .before .before .before .before .before .before .before .before .whole .ensures) (c .before .before .before .before .before .before .before .if1 .left)) (ap (λ (t : FieldRead). t .value) (c .before .before .before .before .before .before .field .ensures))
-    (c .before .before .before .before .before .step .ensures _ (c .before .before .before .before .before .before .before .before .before .before .pre .0 .tech) (c .before .before .before .before .before .before .before .before .before .before .pre .1) refl) (c .before .before .before .made .given .1) (tests-same _ _ (c .if2 .left))
+    let start = c .before .before .before .before .before .before .before .before .before .before in
+    judged-good _ _ _ (start .args .spots .now) (start .args .last) _ _ (is-whole 2 _ _ (c .before .before .before .before .before .before .before .before .whole .ensures) (c .before .before .before .before .before .before .before .if1 .left)) (ap (λ (t : FieldRead). t .value) (c .before .before .before .before .before .before .field .ensures))
+    (c .before .before .before .before .before .step .ensures _ (start .pre .0 .tech) (start .pre .1) refl) (c .before .before .before .made .given .1) (tests-same _ _ (c .if2 .left))
 
 pub judge-move-spec : {M : Type 1} → statement M
 judge-move-spec =

@@ -26,7 +26,9 @@ loop-holds c = walking-begun _ _ _ _ _ _ _ _ (c .walk-from .ensures) (c .before 
 
 judge-move-requires : tie.Need-judge-move-requires Inv-loop μ-loop
 judge-move-requires c κs =
-    (record { tech = c .before .before .before .before .before .before .before .pre .0; place = c .before .before .before .loop .inv .made .place }, c .before .before .before .before .before .before .before .pre .1, omega (arith, c .before .before .before .loop .inv .next, c .before .before .before .before .before .before .before .pre .4, c .before .before .before .before .before .before .before .pre .5))
+    let pre = c .before .before .before .before .before .before .before .pre in
+    let inv = c .before .before .before .loop .inv in
+    (record { tech = pre .0; place = inv .made .place }, pre .1, omega (arith, inv .next, pre .4, pre .5))
 
 enum-known-judged : tie.Need-enum-known-judged Inv-loop μ-loop
 enum-known-judged c = search needs
@@ -34,16 +36,19 @@ enum-known-judged c = search needs
 enter-move-requires : tie.Need-enter-move-requires Inv-loop μ-loop
 unfolding techBy
 enter-move-requires c κs =
-    let new = move-fits _ _ _ _ _ _ _ _ (c .before .before .before .before .before .before .before .before .before .loop .inv) (c .before .before .before .before .before .before .before .before .loop-test .taken) _ _ (c .before .before .before .before .before .judge-move .ensures) (c .before .before .before .judged .given .1) (c .before .before .before .before .before .before .before .before .before .before .before .before .before .pre .0) in
-    (c .before .before .before .before .before .before .before .before .before .before .before .before .before .pre .0 .sized, c .before .before .before .before .before .before .before .before .before .loop .inv .made .place .vertex, new .place .vertex, omega (arith, c .before .before .before .before .before .before .before .before .before .before .before .before .before .pre .2, c .before .before .before .before .before .before .before .before .before .loop .inv .size))
+    let pre = c .before .before .before .before .before .before .before .before .before .before .before .before .before .pre in
+    let inv = c .before .before .before .before .before .before .before .before .before .loop .inv in
+    let new = move-fits _ _ _ _ _ _ _ _ inv (c .before .before .before .before .before .before .before .before .loop-test .taken) _ _ (c .before .before .before .before .before .judge-move .ensures) (c .before .before .before .judged .given .1) (pre .0) in
+    (pre .0 .sized, inv .made .place .vertex, new .place .vertex, omega (arith, pre .2, inv .size))
 
 walk-on-requires : tie.Need-walk-on-requires Inv-loop μ-loop
 walk-on-requires c κs =
-    let new = move-fits _ _ _ _ _ _ _ _ (c .before .before .before .before .before .before .before .before .before .before .before .before .loop .inv) (c .before .before .before .before .before .before .before .before .before .before .before .loop-test .taken) _ _ (c .before .before .before .before .before .before .before .before .judge-move .ensures) (c .before .before .before .before .before .before .judged .given .1) (c .before .before .before .before .before .before .before .before .before .before .before .before .before .before .before .before .pre .0) in
-    let inv = c .before .before .before .before .before .before .before .before .before .before .before .before .loop .inv in (
-      omega (arith, inv .made .cost, c .before .before .before .before .before .before .before .before .before .before .before .before .before .before .before .before .pre .4),
-      omega (arith, inv .made .added, c .before .before .before .before .before .before .before .before .before .before .before .before .before .before .before .before .pre .4),
-      omega (arith, inv .made .penalties, c .before .before .before .before .before .before .before .before .before .before .before .before .before .before .before .before .pre .4),
+    let pre = c .before .before .before .before .before .before .before .before .before .before .before .before .before .before .before .before .pre in
+    let inv = c .before .before .before .before .before .before .before .before .before .before .before .before .loop .inv in
+    let new = move-fits _ _ _ _ _ _ _ _ inv (c .before .before .before .before .before .before .before .before .before .before .before .loop-test .taken) _ _ (c .before .before .before .before .before .before .before .before .judge-move .ensures) (c .before .before .before .before .before .before .judged .given .1) (pre .0) in (
+      omega (arith, inv .made .cost, pre .4),
+      omega (arith, inv .made .added, pre .4),
+      omega (arith, inv .made .penalties, pre .4),
       omega (arith, new .price),
       omega (arith, new .price),
       omega (arith, new .added),
@@ -60,7 +65,9 @@ returns : tie.Need-returns Inv-loop μ-loop
 returns c = walking-refused _ _ _ _ _ _ _ _ (c .before .before .before .before .before .before .before .loop .inv) (c .before .before .before .before .before .before .loop-test .taken) (c .before .before .before .judge-move .ensures) refl (c .before .judged2 .given .1)
 
 add-at : tie.Need-add-at Inv-loop μ-loop
-add-at c = omega (arith, c .before .before .before .before .before .before .before .before .before .before .before .before .before .loop .inv .next, c .before .before .before .before .before .before .before .before .before .before .before .before .before .before .before .before .before .pre .4, c .before .before .before .before .before .before .before .before .before .before .before .before .before .before .before .before .before .pre .5)
+add-at c =
+    let pre = c .before .before .before .before .before .before .before .before .before .before .before .before .before .before .before .before .before .pre in
+    omega (arith, c .before .before .before .before .before .before .before .before .before .before .before .before .before .loop .inv .next, pre .4, pre .5)
 
 sub-left : tie.Need-sub-left Inv-loop μ-loop
 sub-left c = c .before .before .before .before .before .before .before .before .before .before .before .before .loop-test .taken
@@ -70,8 +77,9 @@ loop-less c = omega (arith, c .before .before .before .before .before .before .b
 
 loop-again : tie.Need-loop-again Inv-loop μ-loop
 loop-again c =
+    let entered = c .before .before .before .enter-move .ensures in
     walking-on _ _ _ _ _ _ _ _ (c .before .before .before .before .before .before .before .before .before .before .before .before .before .loop .inv) (c .before .before .before .before .before .before .before .before .before .before .before .before .loop-test .taken) _ _ (c .before .before .before .before .before .before .before .before .before .judge-move .ensures) (c .before .before .before .before .before .before .before .judged .given .1) (c .before .before .before .before .before .before .before .before .before .before .before .before .before .before .before .before .before .pre .0) refl
-    (c .before .before .before .enter-move .ensures .1) (c .before .before .before .enter-move .ensures .0) (c .walk-on .ensures)
+    (entered .1) (entered .0) (c .walk-on .ensures)
 
 same-length-2 : tie.Need-same-length-2 Inv-loop μ-loop
 same-length-2 c = search needs

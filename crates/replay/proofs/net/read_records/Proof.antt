@@ -41,7 +41,9 @@ returns c =
     (c .with-net .ensures)
 
 read-flag-requires : tie.Need-read-flag-requires Inv-loop μ-loop
-read-flag-requires c κs = omega (arith, c .before .before .before .before .loop .inv .bounded .reach, c .before .before .before .before .before .before .before .pre .4, c .before .before .before .before .before .before .before .pre .3 .few)
+read-flag-requires c κs =
+    let pre = c .before .before .before .before .before .before .before .pre in
+    omega (arith, c .before .before .before .before .loop .inv .bounded .reach, pre .4, pre .3 .few)
 
 enum-told : tie.Need-enum-told Inv-loop μ-loop
 enum-told c = search needs
@@ -58,7 +60,9 @@ enum-told-2 : tie.Need-enum-told-2 Inv-loop μ-loop
 enum-told-2 c = search needs
 
 add-t24 : tie.Need-add-t24 Inv-loop μ-loop
-add-t24 c = omega (arith, c .before .before .before .before .before .before .before .loop .inv .bounded .reach, c .before .before .before .before .before .before .before .before .before .before .pre .4, c .before .before .before .before .before .before .before .before .before .before .pre .3 .few)
+add-t24 c =
+    let pre = c .before .before .before .before .before .before .before .before .before .before .pre in
+    omega (arith, c .before .before .before .before .before .before .before .loop .inv .bounded .reach, pre .4, pre .3 .few)
 
 same-length-3 : tie.Need-same-length-3 Inv-loop μ-loop
 same-length-3 c = search needs
@@ -72,11 +76,15 @@ enum-told-3 : tie.Need-enum-told-3 Inv-loop μ-loop
 enum-told-3 c = search needs
 
 add-read-join : tie.Need-add-read-join Inv-loop μ-loop
-add-read-join c = omega (arith, c .before .before .before .before .before .before .before .before .before .loop .inv .bounded .reach, c .before .before .before .before .before .before .before .before .before .before .before .before .pre .4, c .before .before .before .before .before .before .before .before .before .before .before .before .pre .3 .few)
+add-read-join c =
+    let pre = c .before .before .before .before .before .before .before .before .before .before .before .before .pre in
+    omega (arith, c .before .before .before .before .before .before .before .before .before .loop .inv .bounded .reach, pre .4, pre .3 .few)
 
 read-join-requires : tie.Need-read-join-requires Inv-loop μ-loop
 read-join-requires c κs =
-    (c .before .before .before .before .before .before .before .before .before .before .before .before .pre .0, c .before .before .before .before .before .before .before .before .before .before .before .before .pre .1, omega (arith, c .before .before .before .before .before .before .before .before .before .before .before .before .pre .2, c .before .before .before .before .before .before .before .before .before .loop .inv .size), omega (arith, c .before .before .before .before .before .before .before .before .before .loop .inv .bounded .reach, c .before .before .before .before .before .before .before .before .before .before .before .before .pre .4, c .before .before .before .before .before .before .before .before .before .before .before .before .pre .3 .few))
+    let pre = c .before .before .before .before .before .before .before .before .before .before .before .before .pre in
+    let inv = c .before .before .before .before .before .before .before .before .before .loop .inv in
+    (pre .0, pre .1, omega (arith, pre .2, inv .size), omega (arith, inv .bounded .reach, pre .4, pre .3 .few))
 
 enum-known-joined : tie.Need-enum-known-joined Inv-loop μ-loop
 enum-known-joined c = search needs
@@ -86,8 +94,9 @@ same-length-4 c = search needs
 
 returns-4 : tie.Need-returns-4 Inv-loop μ-loop
 returns-4 c =
+    let read = c .before .before .before .before .before .read-join .ensures in
     recording-refused _ _ _ _ _ _ _ _ _ (c .before .before .before .before .before .before .before .before .before .before .before .before .before .before .before .loop .inv) (c .before .before .before .before .before .before .before .before .before .before .before .before .before .before .loop-test .taken) (sym (c .before .before .before .before .before .before .before .before .before .before .before .before .some-unjoined .ensures) ∙ not-false _ (c .before .before .before .before .before .before .before .before .before .before .before .if1 .left)) (c .before .before .before .before .before .before .before .before .before .before .read-flag .ensures)
-    (c .before .before .before .before .before .before .before .before .enum-told3 .given .1) _ (c .before .before .before .before .before .read-join .ensures .0) (c .before .joined .given .1) (c .before .before .before .before .before .read-join .ensures .1 .1 .1)
+    (c .before .before .before .before .before .before .before .before .enum-told3 .given .1) _ (read .0) (c .before .joined .given .1) (read .1 .1 .1)
 
 enum-known-joined-2 : tie.Need-enum-known-joined-2 Inv-loop μ-loop
 enum-known-joined-2 c = search needs
@@ -96,10 +105,11 @@ with-join-requires : tie.Need-with-join-requires Inv-loop μ-loop
 unfolding JoinFits
 with-join-requires c κs =
     let fit = rw (c .before .joined2 .given .1) at (c .before .before .before .before .before .read-join .ensures .1 .0) in
+    let pre = c .before .before .before .before .before .before .before .before .before .before .before .before .before .before .before .before .before .before .pre in
     let b = c .before .before .before .before .before .before .before .before .before .before .before .before .before .before .before .loop .inv .bounded in (
-      omega (arith, b .cost, fit .0 .cost, c .before .before .before .before .before .before .before .before .before .before .before .before .before .before .before .before .before .before .pre .4, c .before .before .before .before .before .before .before .before .before .before .before .before .before .before .before .before .before .before .pre .3 .few),
-      omega (arith, b .added, fit .0 .added, c .before .before .before .before .before .before .before .before .before .before .before .before .before .before .before .before .before .before .pre .4, c .before .before .before .before .before .before .before .before .before .before .before .before .before .before .before .before .before .before .pre .3 .few),
-      omega (arith, b .penalties, fit .0 .penalties, c .before .before .before .before .before .before .before .before .before .before .before .before .before .before .before .before .before .before .pre .4, c .before .before .before .before .before .before .before .before .before .before .before .before .before .before .before .before .before .before .pre .3 .few),
+      omega (arith, b .cost, fit .0 .cost, pre .4, pre .3 .few),
+      omega (arith, b .added, fit .0 .added, pre .4, pre .3 .few),
+      omega (arith, b .penalties, fit .0 .penalties, pre .4, pre .3 .few),
     )
 
 sub-left : tie.Need-sub-left Inv-loop μ-loop
@@ -110,9 +120,10 @@ loop-less c = omega (arith, c .before .before .before .before .before .before .b
 
 loop-again : tie.Need-loop-again Inv-loop μ-loop
 loop-again c =
+    let read = c .before .before .before .before .before .before .read-join .ensures in
     recording-on _ _ _ _ _ _ _ _ _ (c .before .before .before .before .before .before .before .before .before .before .before .before .before .before .before .before .loop .inv) (c .before .before .before .before .before .before .before .before .before .before .before .before .before .before .before .loop-test .taken) (sym (c .before .before .before .before .before .before .before .before .before .before .before .before .before .some-unjoined .ensures) ∙ not-false _ (c .before .before .before .before .before .before .before .before .before .before .before .before .if1 .left)) (c .before .before .before .before .before .before .before .before .before .before .before .read-flag .ensures)
-    (c .before .before .before .before .before .before .before .before .before .enum-told3 .given .1) (c .before .before .before .before .before .before .before .before .before .before .before .before .before .before .before .before .before .before .before .pre .0) (bitsOf-bits _) _ (c .before .before .before .before .before .before .read-join .ensures .0) (c .before .before .before .before .before .before .read-join .ensures .1 .0) (c .before .before .joined2 .given .1)
-    (c .before .before .before .before .before .before .read-join .ensures .1 .1 .0) (c .before .before .before .before .before .before .read-join .ensures .1 .1 .1) (c .with-join .ensures)
+    (c .before .before .before .before .before .before .before .before .before .enum-told3 .given .1) (c .before .before .before .before .before .before .before .before .before .before .before .before .before .before .before .before .before .before .before .pre .0) (bitsOf-bits _) _ (read .0) (read .1 .0) (c .before .before .joined2 .given .1)
+    (read .1 .1 .0) (read .1 .1 .1) (c .with-join .ensures)
 
 with-net-requires-2 : tie.Need-with-net-requires-2 Inv-loop μ-loop
 with-net-requires-2 c κs = omega (arith, c .before .loop .inv .joined, c .before .before .before .before .pre .4)

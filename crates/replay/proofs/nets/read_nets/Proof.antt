@@ -11,11 +11,11 @@ use Rattle.replay.proofs.nets.read_nets.Statement.{statement}
 use Rattle.replay.proofs.nets.read_nets.Tie as tie
 
 abbrev Inv-loop : tie.InvT-loop
-Inv-loop s tech marks map₀ plan nets from seen₀ pins₀ boxes₀ place₀ at₀ totals₀ net₀ left₀ prices map seen pins boxes place at totals net left =
-    Netting s tech marks map₀ (bitsOf plan) (bitsOf-bits plan) map pins boxes place at totals net left
+Inv-loop s tech occupants map₀ plan nets from seen₀ pins₀ boxes₀ position₀ at₀ totals₀ net₀ left₀ prices map seen pins boxes position at totals net left =
+    Netting s tech occupants map₀ (bitsOf plan) (bitsOf-bits plan) map pins boxes position at totals net left
 
 abbrev μ-loop : tie.MeasureT-loop
-μ-loop s tech marks map₀ plan nets from seen₀ pins₀ boxes₀ place₀ at₀ totals₀ net₀ left₀ prices map seen pins boxes place at totals net left = left
+μ-loop s tech occupants map₀ plan nets from seen₀ pins₀ boxes₀ position₀ at₀ totals₀ net₀ left₀ prices map seen pins boxes position at totals net left = left
 
 no-totals-requires : tie.Need-no-totals-requires Inv-loop μ-loop
 no-totals-requires c κs = search needs
@@ -28,8 +28,9 @@ loop-holds c = netting-begun _ _ _ _ _ _ (c .before .before .before .before .bef
 
 load-net-requires : tie.Need-load-net-requires Inv-loop μ-loop
 load-net-requires c κs =
-    let fits = nets-sized _ _ _ _ (c .before .before .before .loop .inv .held) in
-    (fits .sized .small, fits .short, hand-held _ _ _ _ _ (c .before .before .before .loop .inv .nets) (c .before .before .loop-test .taken) .room)
+    let inv = c .before .before .before .loop .inv in
+    let fits = nets-sized _ _ _ _ (inv .held) in
+    (fits .sized .small, fits .short, hand-held _ _ _ _ _ (inv .nets) (c .before .before .loop-test .taken) .room)
 
 add-net : tie.Need-add-net Inv-loop μ-loop
 add-net c = omega (arith, net-below _ _ _ _ _ (c .before .before .before .before .loop .inv .nets) (c .before .before .before .loop-test .taken))
@@ -70,19 +71,22 @@ same-length c =
     let inv = c .before .before .before .before .before .before .before .before .before .before .before .before .before .before .before .before .before .before .before .loop .inv in
     let some = c .before .before .before .before .before .before .before .before .before .before .before .before .before .before .before .before .before .before .loop-test .taken in
     let loaded = c .before .before .before .before .before .before .before .before .before .before .before .before .before .before .before .load-net .ensures in
-    netting-kept _ _ _ _ _ _ inv some (loaded .0) (loaded .1 .0) (loaded .1 .1) _ (c .before .before .before .before .before .before .before .before .before .before .see-net .ensures) _ (c .before .before .before .before .before .read-net .ensures .0) (c .before .before .before .before .before .read-net .ensures .1 .1) .size
+    let read = c .before .before .before .before .before .read-net .ensures in
+    netting-kept _ _ _ _ _ _ inv some (loaded .0) (loaded .1 .0) (loaded .1 .1) _ (c .before .before .before .before .before .before .before .before .before .before .see-net .ensures) _ (read .0) (read .1 .1) .size
 
 returns : tie.Need-returns Inv-loop μ-loop
 unfolding NetFits
 returns c =
     let inv = c .before .before .before .before .before .before .before .before .before .before .before .before .before .before .before .before .before .before .before .loop .inv in
     let some = c .before .before .before .before .before .before .before .before .before .before .before .before .before .before .before .before .before .before .loop-test .taken in
+    let seen = c .before .before .before .before .before .before .before .before .before .before .see-net .ensures in
+    let read = c .before .before .before .before .before .read-net .ensures in
     let loaded = c .before .before .before .before .before .before .before .before .before .before .before .before .before .before .before .load-net .ensures in (
-      netting-refused _ _ _ _ _ _ inv some (loaded .0) (loaded .1 .0) (loaded .1 .1) _ (c .before .before .before .before .before .before .before .before .before .before .see-net .ensures) _ (c .before .before .before .before .before .read-net .ensures .0)
-          (c .before .before .before .before .before .read-net .ensures .1 .1) (c .before .read .given .1),
+      netting-refused _ _ _ _ _ _ inv some (loaded .0) (loaded .1 .0) (loaded .1 .1) _ seen _ (read .0)
+          (read .1 .1) (c .before .read .given .1),
       (
         tt,
-        netting-kept _ _ _ _ _ _ inv some (loaded .0) (loaded .1 .0) (loaded .1 .1) _ (c .before .before .before .before .before .before .before .before .before .before .see-net .ensures) _ (c .before .before .before .before .before .read-net .ensures .0) (c .before .before .before .before .before .read-net .ensures .1 .1),
+        netting-kept _ _ _ _ _ _ inv some (loaded .0) (loaded .1 .0) (loaded .1 .1) _ seen _ (read .0) (read .1 .1),
       ),
     )
 
@@ -100,8 +104,9 @@ loop-again c =
     let inv = c .before .before .before .before .before .before .before .before .before .before .before .before .before .before .before .before .before .before .before .loop .inv in
     let some = c .before .before .before .before .before .before .before .before .before .before .before .before .before .before .before .before .before .before .loop-test .taken in
     let loaded = c .before .before .before .before .before .before .before .before .before .before .before .before .before .before .before .load-net .ensures in
-    netting-on _ _ _ _ _ _ inv some (loaded .0) (loaded .1 .0) (loaded .1 .1) _ (c .before .before .before .before .before .before .before .before .before .before .see-net .ensures) _ (c .before .before .before .before .before .read-net .ensures .0)
-    (c .before .before .before .before .before .read-net .ensures .1 .1) (c .before .read2 .given .1) (c .before .before .before .before .before .read-net .ensures .1 .0)
+    let read = c .before .before .before .before .before .read-net .ensures in
+    netting-on _ _ _ _ _ _ inv some (loaded .0) (loaded .1 .0) (loaded .1 .1) _ (c .before .before .before .before .before .before .before .before .before .before .see-net .ensures) _ (read .0)
+    (read .1 .1) (c .before .read2 .given .1) (read .1 .0)
 
 same-length-2 : tie.Need-same-length-2 Inv-loop μ-loop
 same-length-2 c = nets-kept _ _ _ _ _ (c .before .loop .inv .nets) .size

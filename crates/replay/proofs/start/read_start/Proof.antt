@@ -40,7 +40,9 @@ returns-3 c =
     rw (start-outside _ _ _ _ w (vertex-read _ _ w (c .before .before .before .before .before .vertex-group .ensures) (c .before .before .before .vertex .given .1)) (sym (c .before .inside .ensures) ∙ not-true _ (c .if2 .taken))) refl
 
 number-requires : tie.Need-number-requires
-number-requires c κs = (c .before .before .before .before .before .before .before .before .before .pre .0 .small, inside-fields _ _ (c .before .before .before .before .before .before .before .before .before .pre .0 .small) (rw (sym (c .before .inside .ensures) ∙ not-false _ (c .if2 .left)) tt))
+number-requires c κs =
+    let small = c .before .before .before .before .before .before .before .before .before .pre .0 .small in
+    (small, inside-fields _ _ small (rw (sym (c .before .inside .ensures) ∙ not-false _ (c .if2 .left)) tt))
 
 element-copy-out-if3 : tie.Need-element-copy-out-if3
 element-copy-out-if3 c =

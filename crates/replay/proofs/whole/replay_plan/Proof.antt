@@ -13,20 +13,24 @@ zero-codes-requires c κs = rw (c .before .vertices .ensures) (plan-room _ _ _ _
 
 lay-all-pins-requires : tie.Need-lay-all-pins-requires
 lay-all-pins-requires c κs =
-    (pins-held _ _ _ _ _ _ (c .before .before .before .before .before .before .before .before .before .pre), bare-long _ _ _ _ _ _ (c .before .before .before .before .before .before .before .before .before .pre) (count-zeroed _ (c .before .before .before .before .before .vertices .ensures) (c .before .before .before .zero-codes .ensures)))
+    let pre = c .before .before .before .before .before .before .before .before .before .pre in
+    (pins-held _ _ _ _ _ _ pre, bare-long _ _ _ _ _ _ pre (count-zeroed _ (c .before .before .before .before .before .vertices .ensures) (c .before .before .before .zero-codes .ensures)))
 
 read-nets-requires : tie.Need-read-nets-requires
 read-nets-requires c κs =
-    nets-held _ _ _ _ _ _ (c .before .before .before .before .before .before .before .before .before .before .before .before .before .pre) (count-zeroed _ (c .before .before .before .before .before .before .before .before .before .vertices .ensures) (c .before .before .before .before .before .before .before .zero-codes .ensures)) (c .before .before .before .lay-all-pins .ensures .0) (c .before .before .before .lay-all-pins .ensures .1)
+    let laid = c .before .before .before .lay-all-pins .ensures in
+    nets-held _ _ _ _ _ _ (c .before .before .before .before .before .before .before .before .before .before .before .before .before .pre) (count-zeroed _ (c .before .before .before .before .before .before .before .before .before .vertices .ensures) (c .before .before .before .before .before .before .before .zero-codes .ensures)) (laid .0) (laid .1)
 
 end-plan-requires : tie.Need-end-plan-requires
 end-plan-requires c κs = c .before .before .read-nets .ensures .1 .0
 
 finish-map-requires : tie.Need-finish-map-requires
 finish-map-requires c κs =
-    rw (c .before .before .before .before .before .before .before .before .before .before .before .before .before .before .vertices .ensures) (
-      c .before .before .before .before .before .before .before .before .before .before .before .before .before .before .before .before .before .before .pre .fits .sized .vertices,
-      after-long _ _ _ _ _ _ (c .before .before .before .before .before .before .before .before .before .before .before .before .before .before .before .before .before .before .pre) (count-zeroed _ (c .before .before .before .before .before .before .before .before .before .before .before .before .before .before .vertices .ensures) (c .before .before .before .before .before .before .before .before .before .before .before .before .zero-codes .ensures)) (c .before .before .before .before .before .before .before .before .lay-all-pins .ensures .0)
+    let pre = c .before .before .before .before .before .before .before .before .before .before .before .before .before .before .before .before .before .before .pre in
+    let count = c .before .before .before .before .before .before .before .before .before .before .before .before .before .before .vertices .ensures in
+    rw count (
+      pre .fits .sized .vertices,
+      after-long _ _ _ _ _ _ pre (count-zeroed _ count (c .before .before .before .before .before .before .before .before .before .before .before .before .zero-codes .ensures)) (c .before .before .before .before .before .before .before .before .lay-all-pins .ensures .0)
           (c .before .before .before .before .read-nets .ensures .1 .1),
     )
 
@@ -34,14 +38,17 @@ same-length : tie.Need-same-length
 same-length c = search needs
 
 returns : tie.Need-returns
-returns c = (
-  plan-answer _ _ _ _ _ _ (c .before .before .before .before .before .before .before .before .before .before .before .before .before .before .before .before .before .before .before .before .before .pre) (count-zeroed _ (c .before .before .before .before .before .before .before .before .before .before .before .before .before .before .before .before .before .vertices .ensures) (c .before .before .before .before .before .before .before .before .before .before .before .before .before .before .before .zero-codes .ensures)) (c .before .before .before .before .before .before .before .before .before .before .before .lay-all-pins .ensures .0)
-      _ _ _ (c .before .before .before .before .before .before .before .read-nets .ensures .0) (c .before .before .before .before .before .before .before .read-nets .ensures .1 .1) (c .before .before .before .before .end-plan .ensures)
-      (count-finished _ _ _ (c .before .before .before .before .before .before .before .before .before .before .before .before .before .before .before .before .before .vertices .ensures) (c .before .before .finish-map .ensures)),
-  plan-map _ _ _ _ _ _ (c .before .before .before .before .before .before .before .before .before .before .before .before .before .before .before .before .before .before .before .before .before .pre) (count-zeroed _ (c .before .before .before .before .before .before .before .before .before .before .before .before .before .before .before .before .before .vertices .ensures) (c .before .before .before .before .before .before .before .before .before .before .before .before .before .before .before .zero-codes .ensures)) (c .before .before .before .before .before .before .before .before .before .before .before .lay-all-pins .ensures .0)
-      _ _ _ (c .before .before .before .before .before .before .before .read-nets .ensures .0) (c .before .before .before .before .before .before .before .read-nets .ensures .1 .1) (c .before .before .before .before .end-plan .ensures)
-      (count-finished _ _ _ (c .before .before .before .before .before .before .before .before .before .before .before .before .before .before .before .before .before .vertices .ensures) (c .before .before .finish-map .ensures)),
-)
+returns c =
+    let pre = c .before .before .before .before .before .before .before .before .before .before .before .before .before .before .before .before .before .before .before .before .before .pre in
+    let count = c .before .before .before .before .before .before .before .before .before .before .before .before .before .before .before .before .before .vertices .ensures in
+    let zeros = count-zeroed _ count (c .before .before .before .before .before .before .before .before .before .before .before .before .before .before .before .zero-codes .ensures) in
+    let kept = c .before .before .before .before .before .before .before .before .before .before .before .lay-all-pins .ensures .0 in
+    let read = c .before .before .before .before .before .before .before .read-nets .ensures in
+    let ended = c .before .before .before .before .end-plan .ensures in
+    let finished = count-finished _ _ _ count (c .before .before .finish-map .ensures) in (
+      plan-answer _ _ _ _ _ _ pre zeros kept _ _ _ (read .0) (read .1 .1) ended finished,
+      plan-map _ _ _ _ _ _ pre zeros kept _ _ _ (read .0) (read .1 .1) ended finished,
+    )
 
 pub replay-plan-spec : {M : Type 1} → statement M
 replay-plan-spec =

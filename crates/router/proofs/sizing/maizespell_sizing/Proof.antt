@@ -1,4 +1,5 @@
--- `router::sizing::maizespell_sizing` meets its contract: the job is refused, or its numbers are those of the job that was read.
+-- `router::sizing::maizespell_sizing` meets its contract: the job is refused, or its numbers are those of the
+-- job that was read.
 use borrow.Author.Needs.{needs}
 use Rattle.reader.proofs.Outcome.{read-at, read-refused, zeros-bare}
 use Rattle.router.proofs.Holding.{head-holds, job-held}
@@ -20,7 +21,8 @@ enum-known-reached c = search needs
 
 returns : tie.Need-returns
 returns c =
-    good-sized _ (job-held (read-at _ _ (c .before .before .before .before .before .read-job .ensures .0) _ (c .before .before .before .enum-told .given .1)) (c .before .before .before .before .before .read-job .ensures .1) (c .held-of .ensures))
+    let read = c .before .before .before .before .before .read-job .ensures in
+    good-sized _ (job-held (read-at _ _ (read .0) _ (c .before .before .before .enum-told .given .1)) (read .1) (c .held-of .ensures))
 
 returns-2 : tie.Need-returns-2
 returns-2 c = refused-sized _ _ _ (read-refused _ _ (c .before .before .before .read-job .ensures .0) _ _ (c .before .reached .given .1))

@@ -1,7 +1,7 @@
 -- `routing::net::route_net` meets its contract.
 use borrow.Author.Needs.{needs}
 use Rattle.job.specs.Structs.{gridOf}
-use Rattle.tree.proofs.Marked.{begun-among}
+use Rattle.tree.proofs.Spots.{begun-among}
 use Rattle.routing.proofs.net.route_net.Statement.{statement}
 use Rattle.routing.proofs.net.route_net.Tie as tie
 
@@ -10,8 +10,9 @@ begin-tree-requires c κs = (c .before .before .before .before .pre) .4
 
 route-records-requires : tie.Need-route-records-requires
 route-records-requires c κs =
-    let pre = (c .before .before .before .before .before .before .before .before .before .pre) in
-    let known = begun-among (gridOf ((c .before .before .before .before .before .before .before .before .before .args) .tech .grid)) _ (pre .0 .sized .vertices) (pre .4 .onGrid) in (
+    let start = c .before .before .before .before .before .before .before .before .before in
+    let pre = start .pre in
+    let known = begun-among (gridOf (start .args .tech .grid)) _ (pre .0 .sized .vertices) (pre .4 .onGrid) in (
       pre .0,
       pre .1,
       pre .2,

@@ -10,7 +10,8 @@ use Rattle.job.specs.Structs.{gridOf}
 use Rattle.rules.specs.Structs.{techBy, seenBy}
 use Rattle.bounds.specs.Fills.{Among}
 use Rattle.joins.specs.Joined.{JoinedFits}
-use Rattle.routing.proofs.Records.{Recording, recording-begun, recording-joined, recording-none, recording-on, recording-done}
+use Rattle.routing.proofs.Records.{Recording, recording-begun, recording-joined, recording-done}
+use Rattle.routing.proofs.OneRecord.{recording-none, recording-on}
 use Rattle.routing.proofs.net.route_records.Statement.{statement}
 use Rattle.routing.proofs.net.route_records.Tie as tie
 
@@ -23,7 +24,9 @@ abbrev μ-loop : tie.MeasureT-loop
 μ-loop tech prices seen spots₀ map₀ work₀ plan₀ hand pins totals₀ bits₀ left₀ spots map work plan totals bits left = left
 
 loop-holds : tie.Need-loop-holds Inv-loop μ-loop
-loop-holds c = (recording-begun _ _ _ _ _ _ _ _ _ ((c .before .before .before .before .pre) .6), refl, (c .before .before .before .before .pre) .4)
+loop-holds c =
+    let pre = c .before .before .before .before .pre in
+    (recording-begun _ _ _ _ _ _ _ _ _ (pre .6), refl, pre .4)
 
 some-unjoined-requires : tie.Need-some-unjoined-requires Inv-loop μ-loop
 some-unjoined-requires c κs = (c .before .before .before .before .before .before .before .pre) .4 .there
@@ -62,7 +65,9 @@ enum-told : tie.Need-enum-told Inv-loop μ-loop
 enum-told c = search needs
 
 add-t28 : tie.Need-add-t28 Inv-loop μ-loop
-add-t28 c = omega (arith, (c .before .before .before .before .before .before .before .before .before .before .before .before .before .before .before .before .before .loop) .inv .0 .bounded .reach, (c .before .before .before .before .before .before .before .before .before .before .before .before .before .before .before .before .before .before .before .before .before .before .pre) .5, (c .before .before .before .before .before .before .before .before .before .before .before .before .before .before .before .before .before .before .before .before .before .before .pre) .4 .there .few)
+add-t28 c =
+    let pre = c .before .before .before .before .before .before .before .before .before .before .before .before .before .before .before .before .before .before .before .before .before .before .pre in
+    omega (arith, (c .before .before .before .before .before .before .before .before .before .before .before .before .before .before .before .before .before .loop) .inv .0 .bounded .reach, pre .5, pre .4 .there .few)
 
 same-length-4 : tie.Need-same-length-4 Inv-loop μ-loop
 same-length-4 c = search needs

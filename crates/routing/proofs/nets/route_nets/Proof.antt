@@ -1,11 +1,11 @@
--- `routing::nets::route_nets` meets its contract: what has been routed, then the nets that are left, is the whole.
+-- `routing::nets::route_nets` meets its contract: what has been routed, then the nets that are left, is the
+-- whole.
 use Prim.Native.Nat.{ℕ}
 use mathlib.Core.Path.{_≡_, refl, ap, _∙_}
 use mathlib.Core.List.{List}
 use native.Mathlib.Omega.{arith}
 use borrow.Author.Needs.{needs}
 use lib.ListN.{length}
-use Rattle.job.specs.Structs.{gridOf}
 use Rattle.rules.specs.Structs.{techBy}
 use Rattle.walker.proofs.Nets.{nets-sized, nets-room, nets-kept, net-below, hand-held, pins-fit, pins-below, boxes-few}
 use Rattle.routing.proofs.Netting.{Netting, netting-begun, netting-on, netting-done, fits-all, bounded-next}
@@ -13,11 +13,11 @@ use Rattle.routing.proofs.nets.route_nets.Statement.{statement}
 use Rattle.routing.proofs.nets.route_nets.Tie as tie
 
 abbrev Inv-loop : tie.InvT-loop
-Inv-loop s tech marks map₀ work₀ plan₀ nets from seen₀ pins₀ boxes₀ place₀ routed₀ net₀ left₀ prices map work plan seen pins boxes place routed net left =
-    Netting s tech marks map₀ plan₀ map pins boxes plan place (routed .bits) (routed .totals) net left × (work ≡ work₀)
+Inv-loop s tech occupants map₀ work₀ plan₀ nets from seen₀ pins₀ boxes₀ position₀ routed₀ net₀ left₀ prices map work plan seen pins boxes position routed net left =
+    Netting s tech occupants map₀ plan₀ map pins boxes plan position (routed .bits) (routed .totals) net left × (work ≡ work₀)
 
 abbrev μ-loop : tie.MeasureT-loop
-μ-loop s tech marks map₀ work₀ plan₀ nets from seen₀ pins₀ boxes₀ place₀ routed₀ net₀ left₀ prices map work plan seen pins boxes place routed net left = left
+μ-loop s tech occupants map₀ work₀ plan₀ nets from seen₀ pins₀ boxes₀ position₀ routed₀ net₀ left₀ prices map work plan seen pins boxes position routed net left = left
 
 no-totals-requires : tie.Need-no-totals-requires Inv-loop μ-loop
 no-totals-requires c κs = search needs

@@ -13,21 +13,24 @@ zero-codes-requires c κs = rw (c .before .vertices .ensures) (plan-room _ _ _ _
 
 lay-all-pins-requires : tie.Need-lay-all-pins-requires
 lay-all-pins-requires c κs =
-    (pins-held _ _ _ _ _ _ (c .before .before .before .before .before .before .before .before .before .before .pre .0), bare-long _ _ _ _ _ _ (c .before .before .before .before .before .before .before .before .before .before .pre .0) (count-zeroed _ (c .before .before .before .before .before .vertices .ensures) (c .before .before .before .zero-codes .ensures)))
+    let held = c .before .before .before .before .before .before .before .before .before .before .pre .0 in
+    (pins-held _ _ _ _ _ _ held, bare-long _ _ _ _ _ _ held (count-zeroed _ (c .before .before .before .before .before .vertices .ensures) (c .before .before .before .zero-codes .ensures)))
 
 route-nets-requires : tie.Need-route-nets-requires
 route-nets-requires c κs =
+    let laid = c .before .before .before .before .before .lay-all-pins .ensures in
     let pre = c .before .before .before .before .before .before .before .before .before .before .before .before .before .before .before .before .pre in (
-      nets-held _ _ _ _ _ _ (pre .0) (count-zeroed _ (c .before .before .before .before .before .before .before .before .before .before .before .vertices .ensures) (c .before .before .before .before .before .before .before .before .before .zero-codes .ensures)) (c .before .before .before .before .before .lay-all-pins .ensures .0) (c .before .before .before .before .before .lay-all-pins .ensures .1),
+      nets-held _ _ _ _ _ _ (pre .0) (count-zeroed _ (c .before .before .before .before .before .before .before .before .before .before .before .vertices .ensures) (c .before .before .before .before .before .before .before .before .before .zero-codes .ensures)) (laid .0) (laid .1),
       pre .1,
     )
 
 put-obstacles-requires : tie.Need-put-obstacles-requires
 put-obstacles-requires c κs =
     let pre = c .before .before .before .before .before .before .before .before .before .before .before .before .before .before .before .before .before .before .before .before .before .before .before .before .pre in
-    rw (c .before .before .before .before .before .before .before .before .before .before .before .before .before .before .before .before .before .before .before .vertices .ensures) (
+    let count = c .before .before .before .before .before .before .before .before .before .before .before .before .before .before .before .before .before .before .before .vertices .ensures in
+    rw count (
       pre .0 .fits .sized .vertices,
-      routed-long _ _ _ _ _ _ (pre .0) (count-zeroed _ (c .before .before .before .before .before .before .before .before .before .before .before .before .before .before .before .before .before .before .before .vertices .ensures) (c .before .before .before .before .before .before .before .before .before .before .before .before .before .before .before .before .before .zero-codes .ensures)) (c .before .before .before .before .before .before .before .before .before .before .before .before .before .lay-all-pins .ensures .0) _ _ (c .before .before .before .before .before .before .before .route-nets .ensures .0),
+      routed-long _ _ _ _ _ _ (pre .0) (count-zeroed _ count (c .before .before .before .before .before .before .before .before .before .before .before .before .before .before .before .before .before .zero-codes .ensures)) (c .before .before .before .before .before .before .before .before .before .before .before .before .before .lay-all-pins .ensures .0) _ _ (c .before .before .before .before .before .before .before .route-nets .ensures .0),
     )
 
 same-length : tie.Need-same-length
@@ -42,14 +45,15 @@ same-length-3 c = search needs
 returns : tie.Need-returns
 returns c =
     let held = c .before .before .before .before .before .before .before .before .before .before .before .before .before .before .before .before .before .before .before .before .before .before .before .before .before .before .before .pre .0 in
-    let zeros = count-zeroed _ (c .before .before .before .before .before .before .before .before .before .before .before .before .before .before .before .before .before .before .before .before .before .before .vertices .ensures) (c .before .before .before .before .before .before .before .before .before .before .before .before .before .before .before .before .before .before .before .before .zero-codes .ensures) in
+    let count = c .before .before .before .before .before .before .before .before .before .before .before .before .before .before .before .before .before .before .before .before .before .before .vertices .ensures in
+    let zeros = count-zeroed _ count (c .before .before .before .before .before .before .before .before .before .before .before .before .before .before .before .before .before .before .before .before .zero-codes .ensures) in
     let kept = c .before .before .before .before .before .before .before .before .before .before .before .before .before .before .before .before .lay-all-pins .ensures .0 in
     let (routed, (fits, work)) = c .before .before .before .before .before .before .before .before .before .before .route-nets .ensures in (
       routed-answer _ _ _ _ _ _ held zeros kept _ _ routed,
       (
         fits .reach,
         (
-          routed-map _ _ _ _ _ _ held zeros kept _ _ routed (c .before .before .before .before .before .before .before .before .before .before .before .before .before .before .before .before .before .before .before .before .before .before .vertices .ensures) (c .before .before .put-obstacles .ensures),
+          routed-map _ _ _ _ _ _ held zeros kept _ _ routed count (c .before .before .put-obstacles .ensures),
           (routed-plan _ _ _ _ _ _ held zeros kept _ _ routed, work),
         ),
       ),

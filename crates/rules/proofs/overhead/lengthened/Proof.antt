@@ -1,5 +1,5 @@
--- `rules::overhead::lengthened` meets its contract. What is left to try from a side on is what there was to try
--- from the start; on a side, the vertices up to the last one are clear and the track goes on.
+-- `rules::overhead::lengthened` meets its contract. What is left to try from a side on is what there was to
+-- try from the start; on a side, the vertices up to the last one are clear and the track goes on.
 use Prim.Native.Nat.{ℕ, _-_, _<_}
 use mathlib.Core.Path.{_≡_, refl, sym, _∙_}
 use native.Mathlib.Omega.{arith}
@@ -107,12 +107,14 @@ sides-less-3 c = omega (arith, c .before .before .before .before .loop .inv .0, 
 
 sides-again-3 : tie.Need-sides-again-3 Inv-loop μ-loop Inv-sides μ-sides
 sides-again-3 c g from on r =
-    let so-far = c .before .before .before .before .loop .inv .1 g from on r in
-    let next = counting-next _ _ _ _ _ so-far (c .before .before .before .loop-test .taken) (c .before .before .next-toward .ensures) in
+    let inv = c .before .before .before .before .loop .inv in
+    let so-far = inv .1 g from on r in
+    let taken = c .before .before .before .loop-test .taken in
+    let next = counting-next _ _ _ _ _ so-far taken (c .before .before .next-toward .ensures) in
     let unclear = seen-clear _ _ _ (next .onGrid) ∙ sym (c .before .clear .ensures) ∙ not-true _ (c .if3 .taken) in
-    rw (c .before .before .before .before .loop .inv .0, one-more)
+    rw (inv .0, one-more)
     (sym (side-unclear _ _ _ _ _ _ (c .before .before .before .before .before .before .before .before .before .before .sides-test .taken) (c .before .before .before .before .before .before .before .before .before .side-of .ensures)
-    (counting-unclear _ _ _ _ _ so-far (c .before .before .before .loop-test .taken) (c .before .before .next-toward .ensures) unclear)) ∙ c .before .before .before .before .before .before .before .before .before .before .before .sides .inv g from on r)
+    (counting-unclear _ _ _ _ _ so-far taken (c .before .before .next-toward .ensures) unclear)) ∙ c .before .before .before .before .before .before .before .before .before .before .before .sides .inv g from on r)
 
 add--count : tie.Need-add--count Inv-loop μ-loop Inv-sides μ-sides
 add--count c = search needs
@@ -121,14 +123,16 @@ loop-less : tie.Need-loop-less Inv-loop μ-loop Inv-sides μ-sides
 loop-less c = search needs
 
 loop-again : tie.Need-loop-again Inv-loop μ-loop Inv-sides μ-sides
-loop-again c = (
-  c .before .before .before .before .loop .inv .0,
-  λ g from on r.
-      let so-far = c .before .before .before .before .loop .inv .1 g from on r in
-      let next = counting-next _ _ _ _ _ so-far (c .before .before .before .loop-test .taken) (c .before .before .next-toward .ensures) in
-      let is-clear = seen-clear _ _ _ (next .onGrid) ∙ sym (c .before .clear .ensures) ∙ not-false _ (c .if3 .left) in
-      counting-on _ _ _ _ _ so-far (c .before .before .before .loop-test .taken) (c .before .before .next-toward .ensures) is-clear,
-)
+loop-again c =
+    let inv = c .before .before .before .before .loop .inv in
+    let taken = c .before .before .before .loop-test .taken in (
+      inv .0,
+      λ g from on r.
+          let so-far = inv .1 g from on r in
+          let next = counting-next _ _ _ _ _ so-far taken (c .before .before .next-toward .ensures) in
+          let is-clear = seen-clear _ _ _ (next .onGrid) ∙ sym (c .before .clear .ensures) ∙ not-false _ (c .if3 .left) in
+          counting-on _ _ _ _ _ so-far taken (c .before .before .next-toward .ensures) is-clear,
+    )
 
 returns : tie.Need-returns Inv-loop μ-loop Inv-sides μ-sides
 returns c =

@@ -1,6 +1,6 @@
 -- `rules::price::places_on` meets its contract: at most 16 pairs for each of at most 16,384 vertices.
 use Prim.Native.Nat.{_+_, _*_, _≤_}
-use mathlib.Core.Path.{refl, ap, _∙_}
+use mathlib.Core.Path.{refl, ap}
 use native.Mathlib.Omega.{arith}
 use Rattle.job.specs.Grid.{vertices}
 use Rattle.job.specs.Structs.{gridOf}

@@ -19,7 +19,10 @@ enum-known-segment c = search needs
 
 add-of-length : tie.Need-add-of-length
 unfolding Short
-add-of-length c = (let short : Short (c .before .before .before .args .segment) = c .before .before .before .pre in omega (arith, rw (c .before .segment .given .1) at short))
+add-of-length c =
+    let start = c .before .before .before in
+    let short : Short (start .args .segment) = start .pre in
+    omega (arith, rw (c .before .segment .given .1) at short)
 
 of-length-requires-2 : tie.Need-of-length-requires-2
 of-length-requires-2 c κs = search needs

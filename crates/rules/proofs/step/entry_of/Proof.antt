@@ -26,12 +26,15 @@ returns c tech here same = entry-outside _ _ _ _ (rw (← same) at (entered-outs
 
 element-copy-out-extra-of : tie.Need-element-copy-out-extra-of
 element-copy-out-extra-of c =
-    let (tech, here, same) = c .before .before .before .before .pre in
+    let start = c .before .before .before .before in
+    let (tech, here, same) = start .pre in
     let on = rw (← same) at (entered-at _ (sym (c .before .before .before .entered-by .ensures) ∙ c .before .into .given .1)) in
-    in-array (here .fits) (into-below (c .before .before .before .before .args .seen .now) (c .before .before .before .before .args .number) here on)
+    in-array (here .fits) (into-below (start .args .seen .now) (start .args .number) here on)
 
 extra-of-requires : tie.Need-extra-of-requires
-extra-of-requires c κs = extra-small (c .before .before .before .before .before .pre .1 .fits) (c .before .before .before .before .before .pre .1 .priced) _
+extra-of-requires c κs =
+    let here = c .before .before .before .before .before .pre .1 in
+    extra-small (here .fits) (here .priced) _
 
 enum-known-extra : tie.Need-enum-known-extra
 enum-known-extra c = search needs
@@ -43,29 +46,33 @@ returns-2 : tie.Need-returns-2
 unfolding costOf
 returns-2 c tech here same =
     let on = rw (← same) at (entered-at _ (sym (c .before .before .before .before .before .before .before .entered-by .ensures) ∙ c .before .before .before .before .before .into .given .1)) in
-    entry-shut (c .before .before .before .before .before .before .before .before .args .seen .now) (c .before .before .before .before .before .before .before .before .args .number) here on (sym (c .before .before .extra-of .ensures) ∙ ap costOf (c .enum-told2 .given .1))
+    let args = c .before .before .before .before .before .before .before .before .args in
+    entry-shut (args .seen .now) (args .number) here on (sym (c .before .before .extra-of .ensures) ∙ ap costOf (c .enum-told2 .given .1))
 
 kind-of-requires : tie.Need-kind-of-requires
 kind-of-requires c κs = search needs
 
 base-price-requires : tie.Need-base-price-requires
 base-price-requires c κs =
-    let (tech, here, same) = c .before .before .before .before .before .before .before .before .before .before .pre in
+    let start = c .before .before .before .before .before .before .before .before .before .before in
+    let (tech, here, same) = start .pre in
     let on = rw (← same) at (entered-at _ (sym (c .before .before .before .before .before .before .before .before .before .entered-by .ensures) ∙ c .before .before .before .before .before .before .before .into .given .1)) in
-    base-asked (c .before .before .before .before .before .before .before .before .before .before .args .seen .now) (c .before .before .before .before .before .before .before .before .before .before .args .number) here on (c .kind-of .ensures)
+    base-asked (start .args .seen .now) (start .args .number) here on (c .kind-of .ensures)
 
 add-t16 : tie.Need-add-t16
 unfolding costOf
 add-t16 c =
-    let (tech, here, same) = c .before .before .before .before .before .before .before .before .before .before .before .pre in
+    let start = c .before .before .before .before .before .before .before .before .before .before .before in
+    let (tech, here, same) = start .pre in
     let on = rw (← same) at (entered-at _ (sym (c .before .before .before .before .before .before .before .before .before .before .entered-by .ensures) ∙ c .before .before .before .before .before .before .before .before .into .given .1)) in
-    omega (arith, entry-fits (c .before .before .before .before .before .before .before .before .before .before .before .args .seen .now) (c .before .before .before .before .before .before .before .before .before .before .before .args .number) here on (c .before .kind-of .ensures) (sym (c .before .before .before .before .before .extra-of .ensures) ∙ ap costOf (c .before .before .before .extra .given .1)) (c .base-price .ensures))
+    omega (arith, entry-fits (start .args .seen .now) (start .args .number) here on (c .before .kind-of .ensures) (sym (c .before .before .before .before .before .extra-of .ensures) ∙ ap costOf (c .before .before .before .extra .given .1)) (c .base-price .ensures))
 
 returns-3 : tie.Need-returns-3
 unfolding costOf
 returns-3 c tech here same =
     let on = rw (← same) at (entered-at _ (sym (c .before .before .before .before .before .before .before .before .before .before .entered-by .ensures) ∙ c .before .before .before .before .before .before .before .before .into .given .1)) in
-    entry-open (c .before .before .before .before .before .before .before .before .before .before .before .args .seen .now) (c .before .before .before .before .before .before .before .before .before .before .before .args .number) here on (c .before .kind-of .ensures) (sym (c .before .before .before .before .before .extra-of .ensures) ∙ ap costOf (c .before .before .before .extra .given .1)) (c .base-price .ensures)
+    let args = c .before .before .before .before .before .before .before .before .before .before .before .args in
+    entry-open (args .seen .now) (args .number) here on (c .before .kind-of .ensures) (sym (c .before .before .before .before .before .extra-of .ensures) ∙ ap costOf (c .before .before .before .extra .given .1)) (c .base-price .ensures)
 
 pub entry-of-spec : {M : Type 1} → statement M
 entry-of-spec =

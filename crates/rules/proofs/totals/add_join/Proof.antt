@@ -79,8 +79,9 @@ module _ {M : Type 1} (𝓤 : URA M) (H : Heap 𝓤) (A : Atoms 𝓤) (W : Given
         pass1 ! (init ! 4 refl (fit p-fits)) $ pass0 ! $
         -- the borrow is opened
         move ! (15 ∷ []) $ fsplit ! $ fsplit3 ! $ drop ! $ move ! (17 ∷ []) $ split ! $ move ! (2 ∷ 3 ∷ 0 ∷ []) $ opened ! tt h b o (λ f.
-        -- [the record; the open borrow; obs; auth; true; what the numbers own; _6; …; _5; …; _4; …; _3; …; _2; …; _1; …; _0; …]
-        -- each number is read, what the join adds is added, and the sum is stored: the cost
+        -- [the record; the open borrow; obs; auth; true; what the numbers own; _6; …; _5; …; _4; …; _3; …;
+        -- _2; …; _1; …; _0; …] each number is read, what the join adds is added, and the sum is stored: the
+        -- cost
         assigns ! (of-opd ! (load ! (behind ! 16 refl refl) (look-in ! 0 (sub ! 0 refl (whole !))))) (from ! (stop !)) (init ! 8 refl (fit (f .0))) $
         assigns ! (bin ! (here ! 8 refl) (here ! 14 refl) (record { fits = sum .0 })) (from ! (stop !)) (init ! 6 refl (fit (sum .0))) $
         assigns ! (of-opd ! (here ! 6 refl)) (behind ! 16 refl refl) (store-in ! 0 (sub ! 0 refl (whole !)) (fit (sum .0))) $

@@ -16,10 +16,14 @@ div-t5 : tie.Need-div-t5
 div-t5 c = fits (c .before .before .args .grid) (c .before .before .args .v) (c .before .before .pre) .columns
 
 rem-t6 : tie.Need-rem-t6
-rem-t6 c = fits (c .before .before .before .args .grid) (c .before .before .before .args .v) (c .before .before .before .pre) .rows
+rem-t6 c =
+    let start = c .before .before .before in
+    fits (start .args .grid) (start .args .v) (start .pre) .rows
 
 rem-t7 : tie.Need-rem-t7
-rem-t7 c = fits (c .before .before .before .before .args .grid) (c .before .before .before .before .args .v) (c .before .before .before .before .pre) .columns
+rem-t7 c =
+    let start = c .before .before .before .before in
+    fits (start .args .grid) (start .args .v) (start .pre) .columns
 
 returns : tie.Need-returns
 unfolding layerOf rowOf columnOf

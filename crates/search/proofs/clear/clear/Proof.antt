@@ -21,8 +21,10 @@ same-length c = search needs
 
 returns : tie.Need-returns
 returns c =
+    let emptied = c .before .before .before .before .before .before .clear-heap .ensures in
+    let unlisted = c .before .before .clear-list .ensures in
     let laid = c .before .before .before .before .before .before .before .before .before .pre .1 in
-    (cleared-bare _ laid (c .before .before .before .before .before .before .clear-heap .ensures) _ (c .before .before .clear-list .ensures), cleared-kept _ laid (c .before .before .before .before .before .before .clear-heap .ensures) _ (c .before .before .clear-list .ensures) ((c .before .work2 .given) ∙ (c .before .before .before .before .before .work .given)))
+    (cleared-bare _ laid emptied _ unlisted, cleared-kept _ laid emptied _ unlisted ((c .before .work2 .given) ∙ (c .before .before .before .before .before .work .given)))
 
 pub clear-spec : {M : Type 1} → statement M
 clear-spec = tie.close (tie.spec clear-heap-requires clear-list-requires same-length returns)

@@ -1,4 +1,5 @@
--- `search::clear::clear_heap` meets its contract: so far so many items of the heap, and the words that name them, are zero.
+-- `search::clear::clear_heap` meets its contract: so far so many items of the heap, and the words that name
+-- them, are zero.
 use Prim.Native.Nat.{_+_, _-_}
 use mathlib.Core.Path.{_∙_}
 use borrow.Author.Needs.{needs}
@@ -18,15 +19,21 @@ loop-holds : tie.Need-loop-holds Inv-loop μ-loop
 loop-holds c = clearing-begun (heap-named (c .before .pre))
 
 item-at-requires : tie.Need-item-at-requires Inv-loop μ-loop
-item-at-requires c κs = (c .before .before .before .before .pre .few, omega (arith, c .before .loop-test .taken, c .before .before .before .before .pre .fits), clearing-fits (c .before .before .loop .inv) (c .before .loop-test .taken) .1)
+item-at-requires c κs =
+    let pre = c .before .before .before .before .pre in
+    (pre .few, omega (arith, c .before .loop-test .taken, pre .fits), clearing-fits (c .before .before .loop .inv) (c .before .loop-test .taken) .1)
 
 add-forget : tie.Need-add-forget Inv-loop μ-loop
-add-forget c = omega (arith, c .before .before .before .loop-test .taken, c .before .before .before .before .before .before .pre .fits, c .before .before .before .before .before .before .pre .few)
+add-forget c =
+    let pre = c .before .before .before .before .before .before .pre in
+    omega (arith, c .before .before .before .loop-test .taken, pre .fits, pre .few)
 
 forget-requires : tie.Need-forget-requires Inv-loop μ-loop
 forget-requires c κs =
-    let fits = clearing-fits (c .before .before .before .before .loop .inv) (c .before .before .before .loop-test .taken) in
-    (omega (arith, fits .0, c .before .item-at .ensures, heap-read (c .before .before .before .before .loop .inv) (c .before .before .before .loop-test .taken)), fits .1)
+    let inv = c .before .before .before .before .loop .inv in
+    let more = c .before .before .before .loop-test .taken in
+    let fits = clearing-fits inv more in
+    (omega (arith, fits .0, c .before .item-at .ensures, heap-read inv more), fits .1)
 
 add-at : tie.Need-add-at Inv-loop μ-loop
 add-at c = search needs
@@ -35,7 +42,10 @@ loop-less : tie.Need-loop-less Inv-loop μ-loop
 loop-less c = search needs
 
 loop-again : tie.Need-loop-again Inv-loop μ-loop
-loop-again c = clearing-on (c .before .before .before .before .before .before .before .loop .inv) (c .before .before .before .before .before .before .loop-test .taken) ((c .before .before .before .before .item-at .ensures) ∙ heap-read (c .before .before .before .before .before .before .before .loop .inv) (c .before .before .before .before .before .before .loop-test .taken)) (c .before .before .forget .ensures)
+loop-again c =
+    let inv = c .before .before .before .before .before .before .before .loop .inv in
+    let more = c .before .before .before .before .before .before .loop-test .taken in
+    clearing-on inv more ((c .before .before .before .before .item-at .ensures) ∙ heap-read inv more) (c .before .before .forget .ensures)
 
 same-length : tie.Need-same-length Inv-loop μ-loop
 same-length c = c .before .loop .inv .long

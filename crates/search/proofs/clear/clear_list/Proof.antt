@@ -1,4 +1,5 @@
--- `search::clear::clear_list` meets its contract: so far so many settled places, and the words of the list, are zero.
+-- `search::clear::clear_list` meets its contract: so far so many settled places, and the words of the list,
+-- are zero.
 use Prim.Native.Nat.{_+_, _-_}
 use borrow.Author.Needs.{needs}
 use native.Mathlib.Omega.{arith}
@@ -33,8 +34,10 @@ slice-read-item c = clearing-fits (c .before .before .loop .inv) (c .before .loo
 
 forget-requires : tie.Need-forget-requires Inv-loop μ-loop
 forget-requires c κs =
-    let fits = clearing-fits (c .before .before .before .loop .inv) (c .before .before .loop-test .taken) in
-    (omega (arith, fits .0, list-read (c .before .before .before .loop .inv) (c .before .before .loop-test .taken)), fits .1)
+    let inv = c .before .before .before .loop .inv in
+    let more = c .before .before .loop-test .taken in
+    let fits = clearing-fits inv more in
+    (omega (arith, fits .0, list-read inv more), fits .1)
 
 add-at : tie.Need-add-at Inv-loop μ-loop
 add-at c = search needs
@@ -43,7 +46,10 @@ loop-less : tie.Need-loop-less Inv-loop μ-loop
 loop-less c = search needs
 
 loop-again : tie.Need-loop-again Inv-loop μ-loop
-loop-again c = clearing-on (c .before .before .before .before .before .before .loop .inv) (c .before .before .before .before .before .loop-test .taken) (list-read (c .before .before .before .before .before .before .loop .inv) (c .before .before .before .before .before .loop-test .taken)) (c .before .before .forget .ensures)
+loop-again c =
+    let inv = c .before .before .before .before .before .before .loop .inv in
+    let more = c .before .before .before .before .before .loop-test .taken in
+    clearing-on inv more (list-read inv more) (c .before .before .forget .ensures)
 
 same-length : tie.Need-same-length Inv-loop μ-loop
 same-length c = c .before .loop .inv .long

@@ -3,13 +3,25 @@ use mathlib.Core.Path.{refl}
 use borrow.Author.Needs.{needs}
 use native.Mathlib.Omega.{arith}
 use Rattle.rules.proofs.Places.{code-below, places-small}
-use Rattle.search.proofs.Asking.{vertex-here, code-asked, code-made, code-here, next-left, next-small, settled-here, settled-short, settled-fields, led, led-not}
-use Rattle.search.proofs.Leading.{lead-stopped, lead-goal, lead-unmarked, lead-mark}
+use Rattle.search.proofs.Asking.{vertex-here, code-asked, code-made, code-here, next-left, next-small, settled-here, settled-short, settled-fields, Led, led, led-not}
+use Rattle.search.proofs.Leading.{lead-stopped, lead-goal, lead-bare, lead-led}
 use Rattle.search.proofs.lead.leads.Statement.{statement}
 use Rattle.search.proofs.lead.leads.Tie as tie
 
 step-from-requires : tie.Need-step-from-requires
-step-from-requires c κs = ((_, settled-here (c .before .before .before .pre .0) (c .before .before .before .pre .1), refl), settled-short (c .before .before .before .pre .0))
+step-from-requires c κs =
+    let pre = c .before .before .before .before .pre in
+    ((_, settled-here (pre .0) (pre .1), refl), settled-short (pre .0))
+
+-- where the move is made, from the legal move
+abbrev start : tie.After-made → tie.Start
+start c = c .before .before .before .before .before .before .before
+
+-- and what it leads to
+legal : (c : tie.After-made) → Led (start c .pre .0) (start c .args .seen .now) (start c .args .number) (c .made .given .0 .0)
+legal c =
+    let pre = start c .pre in
+    led (pre .0) _ _ (c .before .before .step-from .ensures _ (settled-here (pre .0) (pre .1)) refl) (c .made .given .1)
 
 enum-known-made : tie.Need-enum-known-made
 enum-known-made c = search needs
@@ -19,85 +31,117 @@ enum-told c = search needs
 
 returns : tie.Need-returns
 returns c =
-    let args = c .before .before .before .before .before .before .args in
+    let called = c .before .before .before .before .before .before .before in
+    let pre = called .pre in
+    let args = called .args in
     lead-stopped _ _ (args .spots .now) (args .bounds .now) (args .work .now) (args .best) (args .settled .distance)
-    (led-not (c .before .before .before .before .before .before .pre .0) _ _ (c .before .before .step-from .ensures _ (settled-here (c .before .before .before .before .before .before .pre .0) (c .before .before .before .before .before .before .pre .1)) refl) (c .enum-told .given .1))
+    (led-not (pre .0) _ _ (c .before .before .step-from .ensures _ (settled-here (pre .0) (pre .1)) refl) (c .enum-told .given .1))
 
 add-cost : tie.Need-add-cost
-add-cost c = omega (arith, led (c .before .before .before .before .before .before .before .before .before .pre .0) _ _ (c .before .before .before .before .before .step-from .ensures _ (settled-here (c .before .before .before .before .before .before .before .before .before .pre .0) (c .before .before .before .before .before .before .before .before .before .pre .1)) refl) (c .before .before .before .made .given .1) .price)
+add-cost c = omega (arith, legal (c .before .before .before) .price)
 
 add-cost-2 : tie.Need-add-cost-2
-add-cost-2 c = omega (arith, c .before .before .before .before .before .before .before .before .before .before .pre .0 .below, led (c .before .before .before .before .before .before .before .before .before .before .pre .0) _ _ (c .before .before .before .before .before .before .step-from .ensures _ (settled-here (c .before .before .before .before .before .before .before .before .before .before .pre .0) (c .before .before .before .before .before .before .before .before .before .before .pre .1)) refl) (c .before .before .before .before .made .given .1) .price)
+add-cost-2 c =
+    let made = c .before .before .before .before in
+    let pre = start made .pre in
+    omega (arith, pre .0 .below, legal made .price)
 
 element-copy-out-if1 : tie.Need-element-copy-out-if1
-element-copy-out-if1 c = vertex-here (c .before .before .before .before .before .before .before .before .before .before .pre .0 .fits) _ (led (c .before .before .before .before .before .before .before .before .before .before .pre .0) _ _ (c .before .before .before .before .before .before .step-from .ensures _ (settled-here (c .before .before .before .before .before .before .before .before .before .before .pre .0) (c .before .before .before .before .before .before .before .before .before .before .pre .1)) refl) (c .before .before .before .before .made .given .1) .good)
+element-copy-out-if1 c =
+    let made = c .before .before .before .before in
+    let pre = start made .pre in
+    vertex-here (pre .0 .fits) _ (legal made .good)
 
 returns-2 : tie.Need-returns-2
 returns-2 c =
-    let args = c .before .before .before .before .before .before .before .before .before .before .before .before .args in
-    let l = led (c .before .before .before .before .before .before .before .before .before .before .before .before .pre .0) _ _ (c .before .before .before .before .before .before .before .before .step-from .ensures _ (settled-here (c .before .before .before .before .before .before .before .before .before .before .before .before .pre .0) (c .before .before .before .before .before .before .before .before .before .before .before .before .pre .1)) refl) (c .before .before .before .before .before .before .made .given .1) in
+    let made = c .before .before .before .before .before .before in
+    let called = start made in
+    let pre = called .pre in
+    let args = called .args in
+    let l = legal made in
     lead-goal _ _ (args .spots .now) (args .bounds .now) (args .work .now) (args .best) (args .settled .distance) (l .leads) (c .if1 .taken)
 
 code-of-requires : tie.Need-code-of-requires
-code-of-requires c κs = code-asked (c .before .before .before .before .before .before .before .before .before .before .before .before .pre .0 .fits) _ (led (c .before .before .before .before .before .before .before .before .before .before .before .before .pre .0) _ _ (c .before .before .before .before .before .before .before .before .step-from .ensures _ (settled-here (c .before .before .before .before .before .before .before .before .before .before .before .before .pre .0) (c .before .before .before .before .before .before .before .before .before .before .before .before .pre .1)) refl) (c .before .before .before .before .before .before .made .given .1) .good)
+code-of-requires c κs =
+    let made = c .before .before .before .before .before .before in
+    let pre = start made .pre in
+    code-asked (pre .0 .fits) _ (legal made .good)
 
 mul-word : tie.Need-mul-word
 mul-word c =
-    let good = led (c .before .before .before .before .before .before .before .before .before .before .before .before .before .pre .0) _ _ (c .before .before .before .before .before .before .before .before .before .step-from .ensures _ (settled-here (c .before .before .before .before .before .before .before .before .before .before .before .before .before .pre .0) (c .before .before .before .before .before .before .before .before .before .before .before .before .before .pre .1)) refl) (c .before .before .before .before .before .before .before .made .given .1) .good in
-    omega (arith, code-made (c .before .before .before .before .before .before .before .before .before .before .before .before .before .pre .0 .fits) _ good (c .code-of .ensures), code-below good, places-small (c .before .before .before .before .before .before .before .before .before .before .before .before .before .pre .0 .fits .good))
+    let made = c .before .before .before .before .before .before .before in
+    let pre = start made .pre in
+    let good = legal made .good in
+    omega (arith, code-made (pre .0 .fits) _ good (c .code-of .ensures), code-below good, places-small (pre .0 .fits .good))
 
 shared-slice-read-word : tie.Need-shared-slice-read-word
 shared-slice-read-word c =
-    let good = led (c .before .before .before .before .before .before .before .before .before .before .before .before .before .before .pre .0) _ _ (c .before .before .before .before .before .before .before .before .before .before .step-from .ensures _ (settled-here (c .before .before .before .before .before .before .before .before .before .before .before .before .before .before .pre .0) (c .before .before .before .before .before .before .before .before .before .before .before .before .before .before .pre .1)) refl) (c .before .before .before .before .before .before .before .before .made .given .1) .good in
-    code-here (c .before .before .before .before .before .before .before .before .before .before .before .before .before .before .pre .0 .fits) _ good (c .before .code-of .ensures) (c .before .before .before .before .before .before .before .before .before .before .before .before .before .before .pre .2)
+    let made = c .before .before .before .before .before .before .before .before in
+    let pre = start made .pre in
+    let good = legal made .good in
+    code-here (pre .0 .fits) _ good (c .before .code-of .ensures) (pre .2)
 
 returns-3 : tie.Need-returns-3
 returns-3 c =
-    let args = c .before .before .before .before .before .before .before .before .before .before .before .before .before .before .before .args in
-    let l = led (c .before .before .before .before .before .before .before .before .before .before .before .before .before .before .before .pre .0) _ _ (c .before .before .before .before .before .before .before .before .before .before .before .step-from .ensures _ (settled-here (c .before .before .before .before .before .before .before .before .before .before .before .before .before .before .before .pre .0) (c .before .before .before .before .before .before .before .before .before .before .before .before .before .before .before .pre .1)) refl) (c .before .before .before .before .before .before .before .before .before .made .given .1) in
-    lead-unmarked _ _ (args .spots .now) (args .bounds .now) (args .work .now) (args .best) (args .settled .distance) (l .leads) (c .before .before .before .if1 .left)
-    (code-made (c .before .before .before .before .before .before .before .before .before .before .before .before .before .before .before .pre .0 .fits) _ (l .good) (c .before .before .code-of .ensures)) (c .if2 .taken)
+    let made = c .before .before .before .before .before .before .before .before .before in
+    let called = start made in
+    let pre = called .pre in
+    let args = called .args in
+    let l = legal made in
+    lead-bare _ _ (args .spots .now) (args .bounds .now) (args .work .now) (args .best) (args .settled .distance) (l .leads) (c .before .before .before .if1 .left)
+    (code-made (pre .0 .fits) _ (l .good) (c .before .before .code-of .ensures)) (c .if2 .taken)
 
 bound-entered-requires : tie.Need-bound-entered-requires
-bound-entered-requires c κs = (c .before .before .before .before .before .before .before .before .before .before .before .before .before .before .before .pre .3, c .before .before .before .before .before .before .before .before .before .before .before .before .before .before .before .pre .0 .fits .sized .small, settled-fields (c .before .before .before .before .before .before .before .before .before .before .before .before .before .before .before .pre .0))
+bound-entered-requires c κs =
+    let pre = c .before .before .before .before .before .before .before .before .before .before .before .before .before .before .before .before .pre in
+    (pre .3, pre .0 .fits .sized .small, settled-fields (pre .0))
 
 mul-result : tie.Need-mul-result
-mul-result c = omega (arith, c .before .before .before .before .before .before .before .before .before .before .before .before .before .before .before .before .pre .0 .below, led (c .before .before .before .before .before .before .before .before .before .before .before .before .before .before .before .before .pre .0) _ _ (c .before .before .before .before .before .before .before .before .before .before .before .before .step-from .ensures _ (settled-here (c .before .before .before .before .before .before .before .before .before .before .before .before .before .before .before .before .pre .0) (c .before .before .before .before .before .before .before .before .before .before .before .before .before .before .before .before .pre .1)) refl) (c .before .before .before .before .before .before .before .before .before .before .made .given .1) .price)
+mul-result c =
+    let made = c .before .before .before .before .before .before .before .before .before .before in
+    let pre = start made .pre in
+    omega (arith, pre .0 .below, legal made .price)
 
 add-result : tie.Need-add-result
 add-result c =
-    let pre = c .before .before .before .before .before .before .before .before .before .before .before .before .before .before .before .before .pre in
-    let l = led (pre .0) _ _ (c .before .before .before .before .before .before .before .before .before .before .before .before .step-from .ensures _ (settled-here (pre .0) (pre .1)) refl) (c .before .before .before .before .before .before .before .before .before .before .made .given .1) in
+    let made = c .before .before .before .before .before .before .before .before .before .before in
+    let pre = start made .pre in
+    let l = legal made in
     let small = next-small (pre .0 .fits) _ (pre .0 .good) _ _ (l .leads) _ (pre .0 .is) (c .bound-entered .ensures) (pre .3) in
     omega (arith, pre .0 .below, l .price, small)
 
 add-result-2 : tie.Need-add-result-2
 add-result-2 c =
-    let pre = c .before .before .before .before .before .before .before .before .before .before .before .before .before .before .before .before .pre in
-    let l = led (pre .0) _ _ (c .before .before .before .before .before .before .before .before .before .before .before .before .step-from .ensures _ (settled-here (pre .0) (pre .1)) refl) (c .before .before .before .before .before .before .before .before .before .before .made .given .1) in
+    let made = c .before .before .before .before .before .before .before .before .before .before in
+    let pre = start made .pre in
+    let l = legal made in
     let small = next-small (pre .0 .fits) _ (pre .0 .good) _ _ (l .leads) _ (pre .0 .is) (c .bound-entered .ensures) (pre .3) in
     omega (arith, pre .0 .below, l .price, small)
 
 mul-result-2 : tie.Need-mul-result-2
 mul-result-2 c =
-    let pre = c .before .before .before .before .before .before .before .before .before .before .before .before .before .before .before .before .pre in
-    let l = led (pre .0) _ _ (c .before .before .before .before .before .before .before .before .before .before .before .before .step-from .ensures _ (settled-here (pre .0) (pre .1)) refl) (c .before .before .before .before .before .before .before .before .before .before .made .given .1) in
+    let made = c .before .before .before .before .before .before .before .before .before .before in
+    let pre = start made .pre in
+    let l = legal made in
     let small = next-small (pre .0 .fits) _ (pre .0 .good) _ _ (l .leads) _ (pre .0 .is) (c .bound-entered .ensures) (pre .3) in
     omega (arith, pre .0 .below, l .price, small)
 
 add-result-3 : tie.Need-add-result-3
 add-result-3 c =
-    let pre = c .before .before .before .before .before .before .before .before .before .before .before .before .before .before .before .before .pre in
-    let l = led (pre .0) _ _ (c .before .before .before .before .before .before .before .before .before .before .before .before .step-from .ensures _ (settled-here (pre .0) (pre .1)) refl) (c .before .before .before .before .before .before .before .before .before .before .made .given .1) in
+    let made = c .before .before .before .before .before .before .before .before .before .before in
+    let pre = start made .pre in
+    let l = legal made in
     let small = next-small (pre .0 .fits) _ (pre .0 .good) _ _ (l .leads) _ (pre .0 .is) (c .bound-entered .ensures) (pre .3) in
     omega (arith, pre .0 .below, l .price, small)
 
 returns-4 : tie.Need-returns-4
 returns-4 c =
-    let args = c .before .before .before .before .before .before .before .before .before .before .before .before .before .before .before .before .args in
-    let pre = c .before .before .before .before .before .before .before .before .before .before .before .before .before .before .before .before .pre in
-    let l = led (pre .0) _ _ (c .before .before .before .before .before .before .before .before .before .before .before .before .step-from .ensures _ (settled-here (pre .0) (pre .1)) refl) (c .before .before .before .before .before .before .before .before .before .before .made .given .1) in
-    lead-mark _ _ (args .spots .now) (args .bounds .now) (args .work .now) (args .best) (args .settled .distance) (l .leads) (c .before .before .before .before .if1 .left)
+    let made = c .before .before .before .before .before .before .before .before .before .before in
+    let called = start made in
+    let args = called .args in
+    let pre = called .pre in
+    let l = legal made in
+    lead-led _ _ (args .spots .now) (args .bounds .now) (args .work .now) (args .best) (args .settled .distance) (l .leads) (c .before .before .before .before .if1 .left)
     (code-made (pre .0 .fits) _ (l .good) (c .before .before .before .code-of .ensures))
     (next-left (pre .0 .fits) _ (pre .0 .good) _ _ (l .leads) _ (pre .0 .is) (c .bound-entered .ensures))
 

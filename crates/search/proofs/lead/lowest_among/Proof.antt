@@ -39,10 +39,13 @@ loop-less c = omega (arith, c .before .before .loop-test .taken)
 
 loop-again : tie.Need-loop-again Inv-loop μ-loop
 loop-again c =
-    let args = c .before .before .before .before .before .args in
+    let called = c .before .before .before .before .before in
+    let inv = c .before .before .before .loop .inv in
+    let more = c .before .before .loop-test .taken in
+    let args = called .args in
     elim (c .if1 .came) [
-      | inl did ↦ untried-on _ _ _ _ _ _ _ (c .before .before .before .loop .inv) (c .before .before .loop-test .taken) (did .1 .ensures) (did .2 .left)
-      | inr not ↦ untried-skip _ _ (args .spots .now) (args .bounds .now) (args .work .now) (args .best) _ (c .before .before .before .loop .inv) (args .moves) (c .before .before .before .before .before .pre .4) (c .before .before .loop-test .taken)
+      | inl did ↦ untried-on _ _ _ _ _ _ _ inv more (did .1 .ensures) (did .2 .left)
+      | inr not ↦ untried-skip _ _ (args .spots .now) (args .bounds .now) (args .work .now) (args .best) _ inv (args .moves) (called .pre .4) more
           (eqb-false _ 1 (sym (c .before .has-move .ensures) ∙ not .left))
     ]
 

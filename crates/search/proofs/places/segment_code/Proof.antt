@@ -15,7 +15,9 @@ enum-known-segment : tie.Need-enum-known-segment
 enum-known-segment c = search needs
 
 mul-result : tie.Need-mul-result
-mul-result c = omega (arith, running-good (c .before .segment .given .1) (c .before .before .before .pre .2), c .before .before .before .pre .1)
+mul-result c =
+    let pre = c .before .before .before .pre in
+    omega (arith, running-good (c .before .segment .given .1) (pre .2), pre .1)
 
 sub-result : tie.Need-sub-result
 sub-result c = omega (arith, running-good (c .before .segment .given .1) (c .before .before .before .pre .2))
@@ -24,7 +26,9 @@ move-toward-requires : tie.Need-move-toward-requires
 move-toward-requires c κs = search needs
 
 add-result : tie.Need-add-result
-add-result c = omega (arith, running-good (c .before .before .segment .given .1) (c .before .before .before .before .pre .2), c .before .before .before .before .pre .1, toward-small _ (c .move-toward .ensures))
+add-result c =
+    let pre = c .before .before .before .before .pre in
+    omega (arith, running-good (c .before .before .segment .given .1) (pre .2), pre .1, toward-small _ (c .move-toward .ensures))
 
 enum-told-2 : tie.Need-enum-told-2
 enum-told-2 c = search needs

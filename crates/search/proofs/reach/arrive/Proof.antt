@@ -21,13 +21,17 @@ element-copy-out-if1 c =
     vertex-here (pre .0 .fits) _ (step-keeps _ _ _ (pre .0 .fits .good) (pre .0 .good) (pre .3 .1))
 
 element-copy-out-with-move : tie.Need-element-copy-out-with-move
-element-copy-out-with-move c = vertex-here (c .before .before .before .before .pre .0 .fits) _ (c .before .before .before .before .pre .0 .good)
+element-copy-out-with-move c =
+    let pre = c .before .before .before .before .pre in
+    vertex-here (pre .0 .fits) _ (pre .0 .good)
 
 with-move-requires : tie.Need-with-move-requires
 with-move-requires c κs = search needs
 
 element-write-near : tie.Need-element-write-near
-element-write-near c = vertex-here (c .before .before .before .before .before .before .pre .0 .fits) _ (c .before .before .before .before .before .before .pre .0 .good)
+element-write-near c =
+    let pre = c .before .before .before .before .before .before .pre in
+    vertex-here (pre .0 .fits) _ (pre .0 .good)
 
 lesser-requires : tie.Need-lesser-requires
 lesser-requires c κs = search needs

@@ -35,14 +35,16 @@ bound-of-requires c κs =
 
 sub-distance : tie.Need-sub-distance Inv-loop μ-loop
 sub-distance c =
-    let pre = c .before .before .before .before .pre in
-    omega (arith, item-bound (pre .0) (pre .1 .3 .known) _ (c .before .before .place-of .ensures) (c .before .before .before .before .args .bounds .now) (c .before .vertex-by .ensures) (c .bound-of .ensures), pre .1 .2)
+    let called = c .before .before .before .before in
+    let pre = called .pre in
+    omega (arith, item-bound (pre .0) (pre .1 .3 .known) _ (c .before .before .place-of .ensures) (called .args .bounds .now) (c .before .vertex-by .ensures) (c .bound-of .ensures), pre .1 .2)
 
 loop-holds : tie.Need-loop-holds Inv-loop μ-loop
 unfolding OwedFor
 loop-holds c =
-    let pre = c .before .before .before .before .pre in
-    let left = item-bound (pre .0) (pre .1 .3 .known) _ (c .before .before .place-of .ensures) (c .before .before .before .before .args .bounds .now) (c .before .vertex-by .ensures) (c .bound-of .ensures) in
+    let called = c .before .before .before .before in
+    let pre = called .pre in
+    let left = item-bound (pre .0) (pre .1 .3 .known) _ (c .before .before .place-of .ensures) (called .args .bounds .now) (c .before .vertex-by .ensures) (c .bound-of .ensures) in
     (trying-begun _ _ _ _ _ _ _ _ _ _ (pre .1 .0, rw (left, distance-by _ _ _ (pre .1 .2)) (pre .1 .3)), λ asked. absurd (omega (arith, asked)))
 
 reach-requires : tie.Need-reach-requires Inv-loop μ-loop
@@ -67,20 +69,23 @@ loop-less c = omega (arith, c .before .before .before .before .before .loop-test
 
 loop-again : tie.Need-loop-again Inv-loop μ-loop
 loop-again c =
+    let placed = c .before .before .before .before .before .before .before .before .before .place-of .ensures in
+    let reached = c .before .before .reach .ensures in
     let pre = c .before .before .before .before .before .before .before .before .before .before .before .pre in
     let inv = c .before .before .before .before .before .before .loop .inv in
     let now = trying-now _ _ _ _ _ _ _ _ _ _ (inv .0) in
-    let on = item-good (pre .0) (now .known) _ (c .before .before .before .before .before .before .before .before .before .place-of .ensures) in
-    (trying-on _ _ _ _ _ _ _ _ _ _ (inv .0) (pre .0 .good) (pre .2) (c .before .before .before .before .before .loop-test .taken) on (item-code (pre .0) (now .known) _ (c .before .before .before .before .before .before .before .before .before .place-of .ensures)) (vertex-here (pre .0) _ on) (c .before .before .reach .ensures .0), c .before .before .reach .ensures .1)
+    let on = item-good (pre .0) (now .known) _ placed in
+    (trying-on _ _ _ _ _ _ _ _ _ _ (inv .0) (pre .0 .good) (pre .2) (c .before .before .before .before .before .loop-test .taken) on (item-code (pre .0) (now .known) _ placed) (vertex-here (pre .0) _ on) (reached .0), reached .1)
 
 same-length : tie.Need-same-length Inv-loop μ-loop
 same-length c = search needs
 
 returns : tie.Need-returns Inv-loop μ-loop
 returns c =
-    let pre = c .before .before .before .before .before .before .before .pre in
+    let called = c .before .before .before .before .before .before .before in
+    let pre = called .pre in
     let inv = c .before .before .loop .inv .0 in
-    let left = item-bound (pre .0) (pre .1 .3 .known) _ (c .before .before .before .before .before .place-of .ensures) (c .before .before .before .before .before .before .before .args .bounds .now) (c .before .before .before .before .vertex-by .ensures) (c .before .before .before .bound-of .ensures) in
+    let left = item-bound (pre .0) (pre .1 .3 .known) _ (c .before .before .before .before .before .place-of .ensures) (called .args .bounds .now) (c .before .before .before .before .vertex-by .ensures) (c .before .before .before .bound-of .ensures) in
     let all : c .before .before .loop .number ≡ 4 = omega (arith, inv .few, c .before .loop-test .left) in
     (λ settled distance is. rw (left, distance-by _ _ distance is, all) at (inv .turns settled), inv .kept)
 

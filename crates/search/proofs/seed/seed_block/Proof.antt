@@ -23,7 +23,7 @@ returns c =
     λ found so-far. seeding-skip _ _ _ _ _ so-far (pre .4) (λ u low high. c .before .some-in .ensures (not-some (c .if1 .taken)) u low (omega (arith, pre .3)))
 
 loop-holds : tie.Need-loop-holds Inv-loop μ-loop
-loop-holds c = blocked-begun _ _ _ _ _ _ _ (c .before .before .before .pre .5) (c .before .before .before .pre .2)
+loop-holds c = let pre = c .before .before .before .pre in blocked-begun _ _ _ _ _ _ _ (pre .5) (pre .2)
 
 seed-vertex-requires : tie.Need-seed-vertex-requires Inv-loop μ-loop
 unfolding techBy
@@ -33,7 +33,9 @@ seed-vertex-requires c κs =
     (pre .0, inv .turns (inv .first .0) (inv .first .1) .laid .heaped, omega (arith, c .before .loop-test .taken, pre .4), pre .6)
 
 add-vertex : tie.Need-add-vertex Inv-loop μ-loop
-add-vertex c = omega (arith, c .before .before .before .before .loop-test .taken, c .before .before .before .before .before .before .before .before .before .pre .1, c .before .before .before .before .before .before .before .before .before .pre .3)
+add-vertex c =
+    let pre = c .before .before .before .before .before .before .before .before .before .pre in
+    omega (arith, c .before .before .before .before .loop-test .taken, pre .1, pre .3)
 
 loop-less : tie.Need-loop-less Inv-loop μ-loop
 loop-less c = omega (arith, c .before .before .before .before .loop-test .taken)

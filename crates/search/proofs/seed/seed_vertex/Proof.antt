@@ -16,7 +16,7 @@ returns : tie.Need-returns
 returns c = (λ off. (refl, refl), λ on. absurd (c .if1 .taken on))
 
 code-of-requires : tie.Need-code-of-requires
-code-of-requires c κs = start-asked (c .before .before .before .pre .0) (c .before .before .before .pre .2)
+code-of-requires c κs = let pre = c .before .before .before .pre in start-asked (pre .0) (pre .2)
 
 places-requires : tie.Need-places-requires
 places-requires c κs = c .before .before .before .before .before .pre .0
@@ -36,8 +36,9 @@ same-length c = search needs
 
 returns-2 : tie.Need-returns-2
 returns-2 c =
-    let pre = c .before .before .before .before .before .before .before .before .before .before .pre in
-    let left = start-left (pre .0) (pre .2) (c .before .before .before .before .before .before .before .before .before .before .args .bounds .now) (c .before .before .before .bound-at .ensures) in
+    let called = c .before .before .before .before .before .before .before .before .before .before in
+    let pre = called .pre in
+    let left = start-left (pre .0) (pre .2) (called .args .bounds .now) (c .before .before .before .bound-at .ensures) in
     let made = start-made (pre .0) (pre .2) (c .before .before .before .before .before .before .code-of .ensures) in
     (λ off. absurd (off (c .before .before .before .before .before .before .before .if1 .left)), λ on. rw (← left, ← made, ← c .before .before .before .before .places .ensures) (c .before .before .lower .ensures))
 

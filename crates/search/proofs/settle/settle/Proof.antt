@@ -46,19 +46,24 @@ same-length c = search needs
 
 returns : tie.Need-returns Inv-loop μ-loop
 returns c =
+    let counted = c .before .before .before .before .before .before .before .before .before .before .before .places .ensures in
+    let key = c .before .before .key-at .ensures in
     let inv = c .before .before .before .before .before .before .loop .inv in
-    let one = least-some (c .before .before .before .before .before .before .before .before .before .before .before .places .ensures) (inv .0) (c .before .before .before .before .if1 .taken) (c .before .before .key-at .ensures) in
-    (ended-best _ _ _ (c .before .before .before .before .before .before .before .before .before .before .before .before .before .pre .0 .good) (inv .0) (c .before .before .before .before .before .before .before .before .before .before .before .places .ensures) one (c .before .before .key-at .ensures) (c .if2 .taken), beyond-trans (inv .1) (c .before .before .before .before .before .before .before .before .before .seed .ensures .1 .1))
+    let one = least-some counted (inv .0) (c .before .before .before .before .if1 .taken) key in
+    (ended-best _ _ _ (c .before .before .before .before .before .before .before .before .before .before .before .before .before .pre .0 .good) (inv .0) counted one key (c .if2 .taken), beyond-trans (inv .1) (c .before .before .before .before .before .before .before .before .before .seed .ensures .1 .1))
 
 settle-next-requires : tie.Need-settle-next-requires Inv-loop μ-loop
 settle-next-requires c κs =
+    let counted = c .before .before .before .before .before .before .before .before .before .before .before .before .places .ensures in
+    let some = c .before .before .before .before .before .if1 .taken in
     let inv = c .before .before .before .before .before .before .before .loop .inv in
-    (rw (c .before .before .before .before .before .before .before .before .before .before .before .before .places .ensures) (inv .0 .laid .heaped), c .before .before .before .before .before .if1 .taken, removed-room (c .before .before .before .before .before .before .before .before .before .before .before .before .places .ensures) (inv .0) (c .before .before .before .before .before .if1 .taken))
+    (rw counted (inv .0 .laid .heaped), some, removed-room counted (inv .0) some)
 
 add-settled : tie.Need-add-settled Inv-loop μ-loop
 add-settled c =
+    let counted = c .before .before .before .before .before .before .before .before .before .before .before .before .before .before .before .places .ensures in
     let inv = c .before .before .before .before .before .before .before .before .before .before .loop .inv in
-    omega (arith, removed-room (c .before .before .before .before .before .before .before .before .before .before .before .before .before .before .before .places .ensures) (inv .0) (c .before .before .before .before .before .before .before .before .if1 .taken), inv .0 .laid .heaped .seated .few, c .before .before .before .before .before .before .before .before .before .before .before .before .before .before .before .places .ensures)
+    omega (arith, removed-room counted (inv .0) (c .before .before .before .before .before .before .before .before .if1 .taken), inv .0 .laid .heaped .seated .few, counted)
 
 sub-t23 : tie.Need-sub-t23 Inv-loop μ-loop
 sub-t23 c = c .before .before .before .before .before .before .before .before .before .if1 .taken
@@ -74,11 +79,15 @@ loop-less c = omega (arith, removed-room (c .before .before .before .before .bef
 
 loop-again : tie.Need-loop-again Inv-loop μ-loop
 loop-again c =
+    let counted = c .before .before .before .before .before .before .before .before .before .before .before .before .before .before .before .before .before .before .before .before .before .places .ensures in
+    let some = c .before .before .before .before .before .before .before .before .before .before .before .before .before .before .if1 .taken in
+    let removed = c .before .before .before .before .before .before .before .before .settle-next .ensures in
+    let reached = c .before .before .reach-all .ensures in
     let fine = c .before .before .before .before .before .before .before .before .before .before .before .before .before .before .before .before .before .before .before .before .before .before .before .pre .0 .good in
     let inv = c .before .before .before .before .before .before .before .before .before .before .before .before .before .before .before .before .loop .inv in
-    let (distance, top, turn) = removed-turn (c .before .before .before .before .before .before .before .before .before .before .before .before .before .before .before .before .before .before .before .before .before .places .ensures) (inv .0) (c .before .before .before .before .before .before .before .before .before .before .before .before .before .before .if1 .taken) (c .before .before .before .before .before .before .before .before .settle-next .ensures) fine (c .before .before .before .before .before .before .before .before .before .before .before .before .key-at .ensures) in
-    let kept = removed-kept (c .before .before .before .before .before .before .before .before .before .before .before .before .before .before .before .before .before .before .before .before .before .places .ensures) (inv .0) (c .before .before .before .before .before .before .before .before .before .before .before .before .before .before .if1 .taken) (c .before .before .before .before .before .before .before .before .settle-next .ensures) in
-    (between-on _ _ _ fine (c .before .before .reach-all .ensures .0 _ distance top turn), beyond-trans (c .before .before .reach-all .ensures .1) (beyond-trans (rw (c .before .before .before .before .before .before .before .before .before .before .before .before .before .before .before .before .before .before .before .before .before .places .ensures) at kept) (inv .1)))
+    let (distance, top, turn) = removed-turn counted (inv .0) some removed fine (c .before .before .before .before .before .before .before .before .before .before .before .before .key-at .ensures) in
+    let kept = removed-kept counted (inv .0) some removed in
+    (between-on _ _ _ fine (reached .0 _ distance top turn), beyond-trans (reached .1) (beyond-trans (rw counted at kept) (inv .1)))
 
 same-length-2 : tie.Need-same-length-2 Inv-loop μ-loop
 same-length-2 c = search needs

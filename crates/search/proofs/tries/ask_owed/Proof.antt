@@ -18,14 +18,19 @@ unfolding OwedFor
 returns c = (c .before .pre .2 (c .if1 .taken), c .if1 .taken)
 
 overhead-of-requires : tie.Need-overhead-of-requires
-overhead-of-requires c κs = (_, settled-here (c .before .before .before .pre .0) (c .before .before .before .pre .1), refl)
+overhead-of-requires c κs =
+    let pre = c .before .before .before .pre in
+    (_, settled-here (pre .0) (pre .1), refl)
 
 line-at-requires : tie.Need-line-at-requires
-line-at-requires c κs = layer-known (settled-here (c .before .before .before .before .pre .0) (c .before .before .before .before .pre .1))
+line-at-requires c κs =
+    let pre = c .before .before .before .before .pre in
+    layer-known (settled-here (pre .0) (pre .1))
 
 overhead-price-requires : tie.Need-overhead-price-requires
 overhead-price-requires c κs =
-    let here = settled-here (c .before .before .before .before .before .pre .0) (c .before .before .before .before .before .pre .1) in
+    let pre = c .before .before .before .before .before .pre in
+    let here = settled-here (pre .0) (pre .1) in
     (omega (arith, ap (λ (l : Layer). l .wire) (c .line-at .ensures ∙ line-told here), line-fits (here .fits) (here .there) .wire), c .before .overhead-of .ensures _ here refl .few)
 
 enum-told : tie.Need-enum-told

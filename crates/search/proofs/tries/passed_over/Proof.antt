@@ -22,13 +22,19 @@ returns : tie.Need-returns
 returns c e = absurd (true≢false (sym e))
 
 bound-entered-requires : tie.Need-bound-entered-requires
-bound-entered-requires c κs = (c .before .before .before .before .pre .1, c .before .before .before .before .pre .0 .fits .sized .small, settled-fields (c .before .before .before .before .pre .0))
+bound-entered-requires c κs =
+    let pre = c .before .before .before .before .pre in
+    (pre .1, pre .0 .fits .sized .small, settled-fields (pre .0))
 
 add-result : tie.Need-add-result
-add-result c = omega (arith, c .before .before .before .before .before .before .pre .0 .below, c .before .before .before .before .before .before .pre .4)
+add-result c =
+    let pre = c .before .before .before .before .before .before .pre in
+    omega (arith, pre .0 .below, pre .4)
 
 mul-result : tie.Need-mul-result
-mul-result c = omega (arith, c .before .before .before .before .before .before .pre .0 .below, c .before .before .before .before .before .before .pre .4)
+mul-result c =
+    let pre = c .before .before .before .before .before .before .pre in
+    omega (arith, pre .0 .below, pre .4)
 
 add-result-2 : tie.Need-add-result-2
 add-result-2 c =
@@ -42,11 +48,14 @@ add-result-3 c =
 
 returns-2 : tie.Need-returns-2
 returns-2 c e =
-    let pre = c .before .before .before .before .before .before .pre in
+    let called = c .before .before .before .before .before .before in
+    let args = called .args in
+    let read = c .before .before .before .key-of in
+    let pre = called .pre in
     let code = fresh-made (pre .0) _ (pre .3) (c .before .before .before .before .code-of .ensures) in
     let left = fresh-left (pre .0) _ (pre .3) _ (c .before .bound-entered .ensures) in
-    let key = c .before .before .before .key-of .ensures ∙ ap (λ x. keyOf (getD (c .before .before .before .before .before .before .args .work .now) x 0)) code in
-    let within : c .before .before .before .key-of .result ≤ 16 * (c .before .before .before .before .before .before .args .settled .distance + c .before .before .before .before .before .before .args .price) + c .before .bound-entered .result + 1 = leb-true _ _ e in
+    let key = read .ensures ∙ ap (λ x. keyOf (getD (args .work .now) x 0)) code in
+    let within : read .result ≤ 16 * (args .settled .distance + args .price) + c .before .bound-entered .result + 1 = leb-true _ _ e in
     record { touched = omega (arith, key, c .before .before .if1 .left); within = omega (arith, key, left, within) }
 
 pub passed-over-spec : {M : Type 1} → statement M

@@ -23,7 +23,9 @@ unfolding triedOf costOf byOwed
 returns c = (rw (charged _ (c .before .before .from-field .ensures) (c .enum-told .given .1)) refl, refl)
 
 add-t9 : tie.Need-add-t9
-add-t9 c = omega (arith, c .before .before .before .before .pre .0, field-small _ (sym (c .before .before .before .from-field .ensures) ∙ c .before .over .given .1), c .before .before .before .before .pre .1)
+add-t9 c =
+    let pre = c .before .before .before .before .pre in
+    omega (arith, pre .0, field-small _ (sym (c .before .before .before .from-field .ensures) ∙ c .before .over .given .1), pre .1)
 
 returns-2 : tie.Need-returns-2
 unfolding triedOf costOf byOwed segmentOf

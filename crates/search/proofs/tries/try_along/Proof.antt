@@ -22,10 +22,14 @@ enum-told c = search needs
 
 returns : tie.Need-returns
 unfolding triedOf
-returns c = (priced-shut _ _ _ _ (sym (c .before .before .entry-of .ensures _ (settled-here (c .before .before .before .before .before .pre .0) (c .before .before .before .before .before .pre .1)) refl) ∙ c .enum-told .given .1), refl)
+returns c =
+    let pre = c .before .before .before .before .before .pre in
+    (priced-shut _ _ _ _ (sym (c .before .before .entry-of .ensures _ (settled-here (pre .0) (pre .1)) refl) ∙ c .enum-told .given .1), refl)
 
 line-at-requires : tie.Need-line-at-requires
-line-at-requires c κs = layer-known (settled-here (c .before .before .before .before .before .before .pre .0) (c .before .before .before .before .before .before .pre .1))
+line-at-requires c κs =
+    let pre = c .before .before .before .before .before .before .pre in
+    layer-known (settled-here (pre .0) (pre .1))
 
 grow-requires : tie.Need-grow-requires
 grow-requires c κs = settled-short (c .before .before .before .before .before .before .before .pre .0)
@@ -41,14 +45,14 @@ unfolding triedOf grownOf
 returns-2 c =
     let pre = c .before .before .before .before .before .before .before .before .before .before .pre in
     let least = ap (λ (l : Layer). l .least) (c .before .before .before .line-at .ensures ∙ line-told (settled-here (pre .0) (pre .1))) in
-    (priced-back _ _ _ _ (sym (c .before .before .before .before .before .before .before .entry-of .ensures _ (settled-here (c .before .before .before .before .before .before .before .before .before .before .pre .0) (c .before .before .before .before .before .before .before .before .before .before .pre .1)) refl) ∙ c .before .before .before .before .before .into .given .1) (pre .2) least (sym (c .before .before .grow .ensures) ∙ ap grownOf (c .enum-told2 .given .1)), refl)
+    (priced-back _ _ _ _ (sym (c .before .before .before .before .before .before .before .entry-of .ensures _ (settled-here (pre .0) (pre .1)) refl) ∙ c .before .before .before .before .before .into .given .1) (pre .2) least (sym (c .before .before .grow .ensures) ∙ ap grownOf (c .enum-told2 .given .1)), refl)
 
 returns-3 : tie.Need-returns-3
 unfolding triedOf grownOf
 returns-3 c =
     let pre = c .before .before .before .before .before .before .before .before .before .before .before .pre in
     let least = ap (λ (l : Layer). l .least) (c .before .before .before .before .line-at .ensures ∙ line-told (settled-here (pre .0) (pre .1))) in
-    (priced-along _ _ _ _ (sym (c .before .before .before .before .before .before .before .before .entry-of .ensures _ (settled-here (c .before .before .before .before .before .before .before .before .before .before .before .pre .0) (c .before .before .before .before .before .before .before .before .before .before .before .pre .1)) refl) ∙ c .before .before .before .before .before .before .into .given .1) (pre .2) least (sym (c .before .before .before .grow .ensures) ∙ ap grownOf (c .before .longer .given .1)), refl)
+    (priced-along _ _ _ _ (sym (c .before .before .before .before .before .before .before .before .entry-of .ensures _ (settled-here (pre .0) (pre .1)) refl) ∙ c .before .before .before .before .before .before .into .given .1) (pre .2) least (sym (c .before .before .before .grow .ensures) ∙ ap grownOf (c .before .longer .given .1)), refl)
 
 pub try-along-spec : {M : Type 1} → statement M
 try-along-spec =

@@ -14,7 +14,7 @@ flag-if-requires-2 c κs = tt
 
 add-result : tie.Need-add-result
 add-result c =
-    let blocked = flag-below (not (eqb (c .before .before .args .mark) 0)) 1 (c .before .flag-if .ensures) in
+    let blocked = flag-below (not (eqb (c .before .before .args .occupant) 0)) 1 (c .before .flag-if .ensures) in
     let taken = flag-below (not (eqb (c .before .before .args .code) 0)) 2 (c .flag-if2 .ensures) in
     omega arith
 
@@ -23,9 +23,10 @@ flag-if-requires-3 c κs = tt
 
 add-result-2 : tie.Need-add-result-2
 add-result-2 c =
-    let blocked = flag-below (not (eqb (c .before .before .before .args .mark) 0)) 1 (c .before .before .flag-if .ensures) in
-    let taken = flag-below (not (eqb (c .before .before .before .args .code) 0)) 2 (c .before .flag-if2 .ensures) in
-    let outside = flag-below (not (c .before .before .before .args .inside)) 4 (c .flag-if3 .ensures) in
+    let args = c .before .before .before .args in
+    let blocked = flag-below (not (eqb (args .occupant) 0)) 1 (c .before .before .flag-if .ensures) in
+    let taken = flag-below (not (eqb (args .code) 0)) 2 (c .before .flag-if2 .ensures) in
+    let outside = flag-below (not (args .inside)) 4 (c .flag-if3 .ensures) in
     omega arith
 
 returns : tie.Need-returns

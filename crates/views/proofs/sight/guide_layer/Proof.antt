@@ -21,7 +21,9 @@ loop-holds : tie.Need-loop-holds Inv-loop μ-loop
 loop-holds c = span-begin _ _ _ _ _ _
 
 guide-row-requires : tie.Need-guide-row-requires Inv-loop μ-loop
-guide-row-requires c κs = (c .before .before .before .before .before .pre .0, omega arith, c .before .before .before .before .before .pre .2, omega arith)
+guide-row-requires c κs =
+    let pre = c .before .before .before .before .before .pre in
+    (pre .0, omega arith, pre .2, omega arith)
 
 add-row : tie.Need-add-row Inv-loop μ-loop
 add-row c = omega arith

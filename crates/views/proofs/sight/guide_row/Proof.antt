@@ -18,7 +18,9 @@ end-below-requires : tie.Need-end-below-requires Inv-loop μ-loop
 end-below-requires c κs = tt
 
 loop-holds : tie.Need-loop-holds Inv-loop μ-loop
-loop-holds c = row-begin _ _ (record { layerOn = c .before .before .before .pre .2; rowOn = c .before .before .before .pre .3; place = c .before .number .ensures; ends = c .end-below .ensures .0; within = c .end-below .ensures .1; all = c .end-below .ensures .2 }) (c .before .before .before .pre .1)
+loop-holds c =
+    let pre = c .before .before .before .pre in
+    row-begin _ _ (record { layerOn = pre .2; rowOn = pre .3; position = c .before .number .ensures; ends = c .end-below .ensures .0; within = c .end-below .ensures .1; all = c .end-below .ensures .2 }) (pre .1)
 
 add-seen : tie.Need-add-seen Inv-loop μ-loop
 add-seen c = omega arith
@@ -45,7 +47,9 @@ same-length : tie.Need-same-length Inv-loop μ-loop
 same-length c = c .before .loop .inv .size
 
 returns : tie.Need-returns Inv-loop μ-loop
-returns c = row-end (c .before .loop .inv) (record { layerOn = c .before .before .before .before .before .pre .2; rowOn = c .before .before .before .before .before .pre .3; place = c .before .before .before .number .ensures; ends = c .before .before .end-below .ensures .0; within = c .before .before .end-below .ensures .1; all = c .before .before .end-below .ensures .2 }) (c .before .before .before .before .before .pre .1) (omega arith)
+returns c =
+    let pre = c .before .before .before .before .before .pre in
+    row-end (c .before .loop .inv) (record { layerOn = pre .2; rowOn = pre .3; position = c .before .before .before .number .ensures; ends = c .before .before .end-below .ensures .0; within = c .before .before .end-below .ensures .1; all = c .before .before .end-below .ensures .2 }) (pre .1) (omega arith)
 
 pub guide-row-spec : {M : Type 1} → statement M
 guide-row-spec =

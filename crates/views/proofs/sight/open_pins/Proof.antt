@@ -1,4 +1,5 @@
--- `views::sight::open_pins` meets its contract: opening the pins that are left gives what opening all of them gives.
+-- `views::sight::open_pins` meets its contract: opening the pins that are left gives what opening all of them
+-- gives.
 use Prim.Native.Nat.{_-_}
 use borrow.Author.Needs.{needs}
 use native.Mathlib.Omega.{arith}

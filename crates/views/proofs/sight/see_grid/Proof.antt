@@ -8,19 +8,19 @@ use Rattle.views.proofs.sight.see_grid.Statement.{statement}
 use Rattle.views.proofs.sight.see_grid.Tie as tie
 
 abbrev Inv-loop : tie.InvT-loop
-Inv-loop seen₀ marks map grid boxes count i₀ seen i = BoxesLeft (gridOf grid) marks map boxes count seen₀ seen i
+Inv-loop seen₀ occupants map grid boxes count i₀ seen i = BoxesLeft (gridOf grid) occupants map boxes count seen₀ seen i
 
 abbrev μ-loop : tie.MeasureT-loop
-μ-loop seen₀ marks map grid boxes count i₀ seen i = count - i
+μ-loop seen₀ occupants map grid boxes count i₀ seen i = count - i
 
 vertices-requires : tie.Need-vertices-requires Inv-loop μ-loop
 vertices-requires c κs = c .before .before .before .pre .0 .small
 
-see-marks-requires : tie.Need-see-marks-requires Inv-loop μ-loop
-see-marks-requires c κs = (omega arith, omega arith, omega (arith, c .before .before .before .before .pre .0 .vertices))
+see-occupants-requires : tie.Need-see-occupants-requires Inv-loop μ-loop
+see-occupants-requires c κs = (omega arith, omega arith, omega (arith, c .before .before .before .before .pre .0 .vertices))
 
 loop-holds : tie.Need-loop-holds Inv-loop μ-loop
-loop-holds c = guide-begin _ _ _ _ _ (λ v on. (c .before .before .see-marks .ensures) v (omega (arith, on, c .before .before .before .vertices .ensures)))
+loop-holds c = guide-begin _ _ _ _ _ (λ v on. (c .before .before .see-occupants .ensures) v (omega (arith, on, c .before .before .before .vertices .ensures)))
 
 mul-box-in : tie.Need-mul-box-in Inv-loop μ-loop
 mul-box-in c = omega arith
@@ -49,5 +49,5 @@ returns c = guide-end _ _ _ _ _ (c .before .loop .inv) (omega arith)
 pub see-grid-spec : {M : Type 1} → statement M
 see-grid-spec =
     tie.close
-    (tie.spec Inv-loop μ-loop vertices-requires see-marks-requires loop-holds mul-box-in box-in-requires guide-box-requires add-i loop-less loop-again
+    (tie.spec Inv-loop μ-loop vertices-requires see-occupants-requires loop-holds mul-box-in box-in-requires guide-box-requires add-i loop-less loop-again
     same-length returns)

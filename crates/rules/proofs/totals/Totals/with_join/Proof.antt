@@ -1,4 +1,5 @@
--- `Totals::with_join` meets its contract: a walk of its MIR, by hand, since it lends a local. Of `add_join` it knows the contract alone.
+-- `Totals::with_join` meets its contract: a walk of its MIR, by hand, since it lends a local. Of `add_join`
+-- it knows the contract alone.
 use mathlib.Core.Path.{refl}
 use Prim.Native.Nat.{ℕ, _+_, _<_, _^_}
 use mathlib.Core.List.{[], _∷_, List}
@@ -75,7 +76,8 @@ module _ {M : Type 1} (𝓤 : URA M) (H : Heap 𝓤) (A : Atoms 𝓤) (W : Given
       (tt, (tt, (tt, (tt, tt)))) (tt, (tt, (tt, (tt, tt))))) $
       says ! refl $ recorded ! h′ f′ $ nothing ! $ number ! p p-fits $ number ! a a-fits $ number ! c c-fits $ recorded ! h f $ fjoin ! $ nothing ! $ done !
 
-  -- what `add_join`'s contract is asked for: the local at b, lent for the lifetime ν under the name γ, and the numbers
+  -- what `add_join`'s contract is asked for: the local at b, lent for the lifetime ν under the name γ, and
+  -- the numbers
   abbrev asked : ℕ → ℕ → GName → AddJoin 𝓤 H A mem run .Ghost
   asked b ν γ = (((ν ∷ [], tt), (fullShare, tt), tt, (refTo b 0 γ h, x .1), (vptr b 0 ∷ [], at .1)), tt)
 

@@ -1,4 +1,5 @@
--- `Totals::with_net` meets its contract: a walk of its MIR, by hand, since it lends a local. Of `add_net` it knows the contract alone.
+-- `Totals::with_net` meets its contract: a walk of its MIR, by hand, since it lends a local. Of `add_net` it
+-- knows the contract alone.
 use mathlib.Core.Path.{refl}
 use Prim.Native.Nat.{ℕ, _+_, _<_, _^_}
 use mathlib.Core.List.{[], _∷_, List}

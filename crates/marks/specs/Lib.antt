@@ -1,2 +1,0 @@
-pub mod Structs
-pub mod Marks
