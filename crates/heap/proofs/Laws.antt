@@ -1,7 +1,7 @@
 -- What callers lean on.
 --     heaped-none                   where no entry was touched there is an empty heap
 --     heaped-as, heaped-store       what is past the heap does not matter, so that the caller may store there
---     heaped-least, removed-key     the item at the front has the least key, and the one that is taken has
+--     heaped-least, removed-key     the item at the front has the least key, and the one that is removed has
 --                                   that key
 --     lowered-left, removed-left    no item gets into the heap but the one that is put in
 --     room-both, room-beside        different items that are not in the heap have room beside it, and so has
@@ -90,7 +90,7 @@ pub heaped-least : {n size : ℕ} {work : List ℕ} → Heaped n size work → (
 heaped-least {n} {size} {work} h c l o =
     rw (ap (λ x. keyOf (getD work x 0)) (h .seated .seats c l o)) at (least-first (h .order) (slotOf (getD work c 0)) (h .seated .within c l o))
 
--- and so has the one that is taken
+-- and so has the one that is removed
 pub removed-key : {n size item : ℕ} {found work : List ℕ} → Removed n size item found work → Heaped n size found → 0 < size
     → keyAt found n 0 ≡ keyOf (getD found item 0)
 removed-key {n} {size} {item} {found} {work} t h some =

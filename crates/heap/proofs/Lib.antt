@@ -8,7 +8,7 @@
 --     Pigeons      a pigeonhole
 --     Lowering     an item put in, or its distance lowered
 --     Leaving      the item at the front leaves
---     Taking       the item at the front taken out, and the last put in its seat
+--     Removing     the item at the front removed, and the last put in its seat
 --     Laws         what callers lean on
 pub mod Words
 pub mod Orders
@@ -19,5 +19,5 @@ pub mod Landing
 pub mod Pigeons
 pub mod Lowering
 pub mod Leaving
-pub mod Taking
+pub mod Removing
 pub mod Laws

@@ -106,7 +106,7 @@ pub record Lowered (n size item distance : ℕ) (found work : List ℕ) (now : �
   pub still : (c : ℕ) → c < n → (c ≡ item → ⊥) → (In found n c → ⊥) → getD work c 0 ≡ getD found c 0
   pub beyond : (j : ℕ) → n + now ≤ j → getD work j 0 ≡ getD found j 0
 
--- An item of the heap with the least key is taken out. Every item keeps its key, and the others are in the
+-- An item of the heap with the least key is removed. Every item keeps its key, and the others are in the
 -- heap as before. The word of the seat that is no longer in the heap is left zero.
 pub record Removed (n size item : ℕ) (found work : List ℕ) : Type 0 where
   pub heaped : Heaped n (size - 1) work

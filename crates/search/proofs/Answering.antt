@@ -8,7 +8,7 @@ use mathlib.Core.Path.{_≡_, refl, sym, ap, _∙_}
 use mathlib.Core.List.{List}
 use mathlib.Core.Bool.{true, false, true≢false}
 use native.Mathlib.Omega.{arith}
-use lib.ListN.{length, getD, set}
+use lib.ListN.{length, getD}
 use Rattle.job.specs.Grid.{vertices}
 use Rattle.job.specs.Structs.{gridOf, vertexOf, vertexStruct}
 use Rattle.job.specs.declared.grid.Vertex.{Vertex}
@@ -21,9 +21,8 @@ use Rattle.rules.specs.Segments.{Place}
 use Rattle.rules.specs.Prices.{Tech}
 use Rattle.rules.specs.Joins.{places}
 use Rattle.rules.specs.Places.{placeCode, placeAt, GoodPlace}
-use Rattle.heap.specs.Heaps.{keyOf, wordOf}
 use Rattle.bounds.specs.Bounds.{boundOf}
-use Rattle.search.specs.Fronts.{costs, leadSlot}
+use Rattle.search.specs.Fronts.{costs, withLead}
 use Rattle.search.specs.Bits.{HasMove}
 use Rattle.search.specs.Spreads.{keys}
 use Rattle.search.specs.Leads.{lowestBy, Asked, Answered}
@@ -62,7 +61,7 @@ module _ {tech : TechStruct} (held : TechFits tech) {item : ℕ} (known : item <
 
 -- a lead changes no cost
 pub led-cost : (t : Tech) (bounds work after : List ℕ) {item lead : ℕ} → item < length work → lead < 4
-    → after ≡ set work item (wordOf (keyOf (getD work item 0)) (leadSlot lead)) → costs t bounds after item ≡ costs t bounds work item
+    → after ≡ withLead work item lead → costs t bounds after item ≡ costs t bounds work item
 led-cost t bounds work after {item} {lead} there few is =
     same-costs t bounds after work item (ap (λ (w : List ℕ). keys w item) is ∙ lead-keys work there lead few item)
 
@@ -85,7 +84,7 @@ module _ {t : Tech} {view : View} {spots bounds : List ℕ} {best item : ℕ} {p
 
   -- a move does
   pub asked-led : {lights after : List ℕ} {lead : ℕ} → lead < 4 → ((e : ℕ) → costs t bounds work item ≡ suc e → lead ≡ lowestBy t view spots bounds work best p e)
-      → after ≡ set work item (wordOf (keyOf (getD work item 0)) (leadSlot lead))
+      → after ≡ withLead work item lead
       → ((u m : ℕ) → u < vertices (t .grid) → entered (t .grid) u m ≡ at (p .vertex) → HasMove (getD lights u 0) m)
       → ((u m : ℕ) → HasMove (getD near u 0) m → HasMove (getD lights u 0) m) → length lights ≡ 16384 → Asked t view spots bounds best item p near work lights after true
   asked-led {lead = lead} known leads put lit stays long =

@@ -1,6 +1,7 @@
 -- Leads and moves, by the entries.
 --     led-told, told-led               a place has a lead just where its slot says so
 --     cost-told, same-reached          it has a cost where its key does, and the same by the same keys
+--     Lead                             a move leads on
 --     lead-some, lead-none             the lowest move that leads on is one of the four just where one leads
 --                                      on
 --     only-none                        of a byte without any move none does
@@ -47,20 +48,22 @@ pub same-reached : (t : Tech) (bounds work found : List ℕ) → ((c : ℕ) → 
 unfolding reachedBy
 same-reached t bounds work found same = λ i p. entryCost (same-costs t bounds work found (placeCode t p) (same (placeCode t p)) i)
 
-module _ (t : Tech) (view : View) (spots bounds work : List ℕ) (best : ℕ) (p : Place) (e : ℕ) where
-  abbrev LeadsOn : ℕ → Type 0
-  LeadsOn m = Leads (systemBy t view spots) (reachedBy t bounds work) best (λ q. ledBy t work q ≡ true) p e m
+-- a move from p, to which it costs e, leads to a goal at the best cost, or on to a place with a lead; costs
+-- are those of a slice, leads those of another
+abbrev pub Lead : Tech → View → (spots bounds found work : List ℕ) → (best : ℕ) → (p : Place) → (e m : ℕ) → Type 0
+Lead t view spots bounds found work best p e m = Leads (systemBy t view spots) (reachedBy t bounds found) best (λ q. ledBy t work q ≡ true) p e m
 
+module _ (t : Tech) (view : View) (spots bounds work : List ℕ) (best : ℕ) (p : Place) (e : ℕ) where
   -- the test of a move
   abbrev test : ℕ → Bool
   test m = isLead (systemBy t view spots) (reachedBy t bounds work) best (ledBy t work) e (systemBy t view spots .step p m)
 
   -- the lowest move that leads on is one of the four just where one leads on
-  pub lead-some : lowestBy t view spots bounds work best p e < 4 → (m : ℕ) × LeadsOn m
+  pub lead-some : lowestBy t view spots bounds work best p e < 4 → (m : ℕ) × Lead t view spots bounds work work best p e m
   unfolding lowestLead
   lead-some h = (lowestFrom test 0 4, test-leads h (lowest-one test 0 4 h))
 
-  pub lead-none : 4 ≤ lowestBy t view spots bounds work best p e → {m : ℕ} → LeadsOn m → ⊥
+  pub lead-none : 4 ≤ lowestBy t view spots bounds work best p e → {m : ℕ} → Lead t view spots bounds work work best p e m → ⊥
   unfolding lowestLead
   lead-none h {m} lead =
       let (up, pass) = lowest-passes test 0 4 m (omega arith) (leads-known lead) (leads-test lead) in

@@ -2,7 +2,7 @@
 --     Numbers      places by number and back
 --     Lawful       the laws of cheapest walks hold
 --     Laying       the layout of the work slice
---     Listing      the place taken from the heap goes to the list
+--     Listing      the place removed from the heap goes to the list
 --     Putting      a lead put on a settled place
 --     Costing      the cost that an entry tells, and what is left at least
 --     Bits         bytes with a bit for each move

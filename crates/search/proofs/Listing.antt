@@ -1,5 +1,5 @@
--- The place taken from the heap goes to the end of the list: the layout is kept.
---     room-list                                    there is room in the list for a place taken
+-- The place removed from the heap goes to the end of the list: the layout is kept.
+--     room-list                                    there is room in the list for a place removed
 --     take-keys, done-take, item-done, take-done   no key changes, and one place more is settled
 --     take-slots                                   each with the slot of one that has left the heap
 --     laid-take                                    with it in the list the slice is laid out
@@ -63,7 +63,7 @@ module _ {n size settled last item : ℕ} {found work : List ℕ} (l : Laid n si
       by (inl e) = rw e (ap slotOf (settling-word item (t .known)) ∙ t .slot)
       by (inr before) = ap slotOf (settling-word c h ∙ t .still c h (before .out)) ∙ was c h before
 
-  -- the place that is taken out goes to the end of the list
+  -- the place that is removed goes to the end of the list
   settling-last : listAt n settling settled ≡ item
   unfolding listAt
   settling-last = getD-set-same work (n + n - 1 - settled) item 0 (room-list .2)

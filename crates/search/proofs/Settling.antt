@@ -1,9 +1,9 @@
 -- Places settled one after the other.
 --     between-begun                               before the first
---     turn-begun                                  one is taken from the heap
+--     turn-begun                                  one is removed from the heap
 --     between-on                                  its moves are tried
 --     least-asked, least-some                     the least open place
---     removed-turn, removed-kept, removed-room    a place taken, in the code's words
+--     removed-turn, removed-kept, removed-room    a place removed, in the code's words
 --     ended-none, ended-best                      the search stops
 --     ended-rest, ended-forward                   what it has found
 use Prim.Native.Nat.{ℕ, suc, _+_, _-_, _*_, _/_, _^_, _≤_, _<_}
@@ -66,7 +66,7 @@ module _ {t : Tech} (view : View) (spots bounds : List ℕ) (fine : GoodTech t) 
           let (key, which) = seeded .only (place-good fine h) (rw is some) in
           omega (arith, at-none work c (rw is at key))
 
-  -- a place is taken from the heap
+  -- a place is removed from the heap
   pub turn-begun : {near work mid : List ℕ} {size settled best item distance : ℕ} → Between t view spots bounds near work size settled best → 0 < size
       → Removed (places t) size item work mid → keyAt work (places t) 0 ≡ suc (16 * distance + leftAt t bounds item)
       → Turn t view spots bounds near (set mid (places t + places t - 1 - settled) item) (size - 1) (settled + 1) best item distance 0
@@ -136,12 +136,12 @@ module _ {t : Tech} {view : View} {spots bounds near work : List ℕ} {size sett
   pub removed-room : settled < n
   removed-room = omega (arith, laid-room (now .laid))
 
-  module _ {item : ℕ} {after : List ℕ} (taken : (mid : List ℕ) × (Removed n size item work mid) × (after ≡ set mid (n + n - 1 - settled) item)) where
+  module _ {item : ℕ} {after : List ℕ} (removed : (mid : List ℕ) × (Removed n size item work mid) × (after ≡ set mid (n + n - 1 - settled) item)) where
     -- its cost, and the moves that are to be tried
     pub removed-turn : GoodTech t → {r : ℕ} → r ≡ keyAt work n 0
         → (distance : ℕ) × (r - 1 ≡ 16 * distance + leftAt t bounds item) × Turn t view spots bounds near after (size - 1) (settled + 1) best item distance 0
     removed-turn fine {r} is =
-        let (mid, w, stored) = taken in
+        let (mid, w, stored) = removed in
         let whole-w : Removed (places t) size item work mid = rw whole at w in
         let first = removed-key whole-w (now .laid .heaped) some in
         let there = now .told item (whole-w .known) (omega (arith, first, rw whole at is, least-some is)) in
@@ -155,7 +155,7 @@ module _ {t : Tech} {view : View} {spots bounds near work : List ℕ} {size sett
     -- past the needed part the slice is as found
     pub removed-kept : Beyond (n + n) after work
     removed-kept =
-        let (mid, w, stored) = taken in
+        let (mid, w, stored) = removed in
         let stays : Beyond (n + n) mid work = beyond-by (w .long) (λ j h. w .beyond j (omega (arith, w .heaped .seated .fits))) in
         rw stored (beyond-trans (beyond-store (n + n) (n + n - 1 - settled) item mid (omega (arith, removed-room))) stays)
 

@@ -5,14 +5,14 @@
 --                                a key tells
 --     costs, reachedBy           the cost to each place that has an entry
 --     atLeast                    what is left at least from a place
---     ledBy, leadAt, leadSlot    whether a place has a lead, the move that it tells, and the slot of such a
---                                lead
+--     leadSlot, withLead         the slot of a lead that tells a move; the slice with such a lead
+--     ledBy, leadAt              whether a place has a lead, and the move that it tells
 --     noGoal, bestBy             the cost of the cheapest goal found
 --     dearestMove                the most that a move can cost
 use Prim.Native.Nat.{ℕ, zero, suc, _+_, _-_, _*_, _/_, _%_}
 use mathlib.Core.List.{List}
 use mathlib.Core.Bool.{Bool, cond}
-use lib.ListN.{getD}
+use lib.ListN.{getD, set}
 use lib.Dec.{eqb, ltb}
 use Rattle.job.specs.Grid.{vertices}
 use Rattle.job.specs.Job.{largestMinLength}
@@ -25,7 +25,7 @@ use Rattle.rules.specs.Prices.{Tech}
 use Rattle.rules.specs.Steps.{step, priced}
 use Rattle.rules.specs.Walks.{startAt}
 use Rattle.rules.specs.Places.{placeCode, placeAt, entryCost}
-use Rattle.heap.specs.Heaps.{keyOf, slotOf}
+use Rattle.heap.specs.Heaps.{keyOf, slotOf, wordOf}
 use Rattle.bounds.specs.Bounds.{boundAt}
 
 -- moves 0 to 3; a place on a vertex whose byte says that it is an unjoined pin is a goal
@@ -67,6 +67,10 @@ atLeast t bounds p = boundAt (t .grid) bounds (p .vertex) / 16 + 1
 -- lead
 abbrev pub leadSlot : (lead : ℕ) → ℕ
 leadSlot lead = 4 * 262142 + lead
+
+-- the slice with a lead on the place with a number; its key stays
+abbrev pub withLead : (work : List ℕ) → (item lead : ℕ) → List ℕ
+withLead work item lead = set work item (wordOf (keyOf (getD work item 0)) (leadSlot lead))
 
 -- whether a place has a lead
 unfoldable pub ledBy : Tech → (work : List ℕ) → Place → Bool

@@ -9,7 +9,7 @@ use Prim.Native.Nat.{ℕ, suc, _≤_, _<_, min}
 use mathlib.Core.Path.{_≡_}
 use mathlib.Core.List.{List}
 use mathlib.Core.Bool.{Bool, true, false}
-use lib.ListN.{length, getD, set}
+use lib.ListN.{length, getD}
 use Rattle.job.specs.Grid.{vertices}
 use Rattle.paths.specs.Systems.{Step}
 use Rattle.paths.specs.Leads.{isLead, lowestLead}
@@ -18,8 +18,7 @@ use Rattle.rules.specs.Views.{View}
 use Rattle.rules.specs.Segments.{Place}
 use Rattle.rules.specs.Prices.{Tech}
 use Rattle.rules.specs.Steps.{step, priced}
-use Rattle.heap.specs.Heaps.{keyOf, wordOf}
-use Rattle.search.specs.Fronts.{systemBy, costs, reachedBy, leadSlot, ledBy}
+use Rattle.search.specs.Fronts.{systemBy, costs, reachedBy, withLead, ledBy}
 use Rattle.search.specs.Bits.{HasMove}
 
 abbrev pub leadBy : (t : Tech) (view : View) (spots bounds work : List ℕ) → (best e : ℕ) → Step Place → Bool
@@ -39,7 +38,7 @@ pub record Asked (t : Tech) (view : View) (spots bounds : List ℕ) (best item :
   pub lead : ℕ
   pub known : led ≡ true → lead < 4
   pub leads : led ≡ true → (e : ℕ) → costs t bounds work item ≡ suc e → lead ≡ lowestBy t view spots bounds work best p e
-  pub put : led ≡ true → work′ ≡ set work item (wordOf (keyOf (getD work item 0)) (leadSlot lead))
+  pub put : led ≡ true → work′ ≡ withLead work item lead
   pub lit : led ≡ true → (u m : ℕ) → u < vertices (t .grid) → entered (t .grid) u m ≡ at (p .vertex) → HasMove (getD near′ u 0) m
   pub stays : (u m : ℕ) → HasMove (getD near u 0) m → HasMove (getD near′ u 0) m
   pub bytes : length near′ ≡ 16384

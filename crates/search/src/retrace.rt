@@ -3,10 +3,10 @@
 // pass suffices.
 ghost use mathlib.Core.Path.{_≡_};
 ghost use Prim.Native.Nat.{ℕ, suc, _+_, _-_, _*_, _/_, _%_, _≤_, _<_, _^_, min};
-ghost use lib.ListN.{length, getD, set};
+ghost use lib.ListN.{length, getD};
 ghost use Rattle.job.specs.Grid.{vertices};
 ghost use Rattle.job.specs.Structs.{Sized, gridOf, vertexStruct};
-ghost use Rattle.heap.specs.Heaps.{mostItems, keyOf, wordOf};
+ghost use Rattle.heap.specs.Heaps.{mostItems, keyOf};
 ghost use Rattle.metal.specs.Codes.{Beyond};
 ghost use Rattle.rules.specs.Tracks.{vertexBy, at, entered};
 ghost use Rattle.rules.specs.Joins.{places};
@@ -14,7 +14,7 @@ ghost use Rattle.rules.specs.Places.{placeAt};
 ghost use Rattle.rules.specs.PriceLists.{Priced};
 ghost use Rattle.rules.specs.Structs.{TechFits, techBy, seenBy};
 ghost use Rattle.bounds.specs.Bounds.{Bounding, SmallBounds};
-ghost use Rattle.search.specs.Fronts.{costs, leadSlot, noGoal, dearestMove};
+ghost use Rattle.search.specs.Fronts.{costs, withLead, noGoal, dearestMove};
 ghost use Rattle.search.specs.Lists.{Laid};
 ghost use Rattle.search.specs.Spreads.{Ended};
 ghost use Rattle.search.specs.Leads.{OnlyMoves, Answered};
@@ -63,7 +63,7 @@ fn light(near: &mut [u8; 16384], grid: Grid, v: usize, from: Vertex)
 // Puts a lead that tells a move on a settled place; its key stays.
 fn put_lead(work: &mut [u64], item: usize, lead: usize)
     requires { ⌜ (item < length (now work)) × (keyOf (getD (now work) item 0) ≤ 2 ^ 41) × (lead < 4) ⌝ }
-    ensures { λ _. ⌜ now (work .exit) ≡ set (now (work .entry)) item (wordOf (keyOf (getD (now (work .entry)) item 0)) (leadSlot lead)) ⌝ }
+    ensures { λ _. ⌜ now (work .exit) ≡ withLead (now (work .entry)) item lead ⌝ }
 {
     work[item] = work[item] / SLOTS * SLOTS + (4 * LED + lead as u64);
 }

@@ -2,7 +2,7 @@
 use borrow.Author.Needs.{needs}
 use mathlib.Core.Logic.{⊎-elim}
 use native.Mathlib.Omega.{arith}
-use Rattle.heap.proofs.Taking.{settle-asked, last-asked, drop-asked, drop-removed, one-done, clear-asked}
+use Rattle.heap.proofs.Removing.{settle-asked, last-asked, drop-asked, drop-removed, one-done, clear-asked}
 use Rattle.heap.proofs.remove_least.Statement.{statement}
 use Rattle.heap.proofs.remove_least.Tie as tie
 

@@ -29,9 +29,9 @@ use Rattle.search.proofs.Costing.{bounds-low}
 use Rattle.search.proofs.Settling.{ended-rest, ended-forward}
 use Rattle.paths.proofs.Lowest.{lowest-is, lowest-none}
 use Rattle.search.proofs.Leads.{cost-told, same-reached}
-use Rattle.search.proofs.Retracing.Places.{Found, Retracing}
+use Rattle.search.proofs.Retracing.Places.{Searched, Retracing}
 
-module _ {t : Tech} {view : View} {spots bounds work₀ : List ℕ} {settled best : ℕ} (found : Found t view spots bounds work₀ settled best) {near work : List ℕ} {left start : ℕ}
+module _ {t : Tech} {view : View} {spots bounds work₀ : List ℕ} {settled best : ℕ} (found : Searched t view spots bounds work₀ settled best) {near work : List ℕ} {left start : ℕ}
     (so-far : Retracing t view spots bounds work₀ settled best near work left start) (none : left ≤ 0) where
   -- a place within the best cost that the search came to is settled
   settled-in : {p : Place} {e : ℕ} → GoodPlace t p → reachedBy t bounds work₀ p ≡ fin e → e + atLeast t bounds p ≤ best → Done (places t) work₀ (placeCode t p)

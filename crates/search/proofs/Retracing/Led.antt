@@ -1,6 +1,5 @@
 -- The next place gets a lead, and the leads of all places stay right.
---     withLead                                     the slice with a lead
---     led-other, led-here, led-same, told-same     it has one now, and the others are as they were
+--     led-here, led-same, told-same                it has one now, and the others are as they were
 --     lead-before, lowest-stays                    the lowest move that leads on from a place asked before
 --                                                  stays the same
 --     told-on, made-on, within-on, leads-on        so leads stand where a move leads on, and tell the lowest
@@ -11,9 +10,8 @@ use mathlib.Core.List.{List}
 use mathlib.Core.Bool.{Bool, true, false}
 use native.Mathlib.Omega.{arith}
 use native.Mathlib.Decide.{ℕ-discrete}
-use lib.ListN.{getD, set}
+use lib.ListN.{getD}
 use lib.Dec.{eqb}
-use lib.Seq.{getD-set-other}
 use Rattle.paths.specs.Systems.{Legal}
 use Rattle.paths.specs.Distances.{Cost, fin}
 use Rattle.paths.specs.Leads.{ends, goesOn, isLead, lowestLead, isLed}
@@ -26,22 +24,17 @@ use Rattle.rules.specs.Prices.{Tech}
 use Rattle.rules.specs.Joins.{places}
 use Rattle.rules.specs.Walks.{startAt}
 use Rattle.rules.specs.Places.{placeCode, GoodPlace}
-use Rattle.heap.specs.Heaps.{keyOf, slotOf, wordOf}
-use Rattle.search.specs.Fronts.{systemBy, startsBy, costs, reachedBy, leadSlot, ledBy, leadAt}
+use Rattle.heap.specs.Heaps.{slotOf}
+use Rattle.search.specs.Fronts.{systemBy, startsBy, costs, reachedBy, leadSlot, withLead, ledBy, leadAt}
 use Rattle.search.specs.Lists.{listAt}
 use Rattle.search.specs.Spreads.{keys}
 use Rattle.search.specs.Leads.{lowestBy}
 use Rattle.search.proofs.Lawful.{lawful-by}
-use Rattle.search.proofs.Putting.{lead-slot, lead-there}
+use Rattle.search.proofs.Putting.{lead-other, lead-slot, lead-there}
 use Rattle.search.proofs.Costing.{costs-told, nearer-by}
 use Rattle.paths.proofs.Lowest.{lowest-same}
-use Rattle.search.proofs.Leads.{told-led, cost-told, same-reached, lead-some}
-use Rattle.search.proofs.Retracing.Places.{Lead}
+use Rattle.search.proofs.Leads.{told-led, cost-told, same-reached, Lead, lead-some}
 use Rattle.search.proofs.Retracing.Next.{Next, next-laid, next-now, next-known, next-done, next-cost, next-here, lead-was}
-
--- the slice with a lead
-abbrev pub withLead : (work : List ℕ) → (item lead : ℕ) → List ℕ
-withLead work item lead = set work item (wordOf (keyOf (getD work item 0)) (leadSlot lead))
 
 module _ {t : Tech} {view : View} {spots bounds work₀ : List ℕ} {settled best : ℕ} {near work : List ℕ} {before start item : ℕ} {here : Place}
     (n : Next t view spots bounds work₀ settled best near work before start item here) {lead : ℕ} (few : lead < 4)
@@ -49,16 +42,13 @@ module _ {t : Tech} {view : View} {spots bounds work₀ : List ℕ} {settled bes
   open Next n using (found, so-far, some-left, is-item)
 
   abbrev On : (work : List ℕ) → Place → (e m : ℕ) → Type 0
-  On = Lead t view spots bounds work₀ settled best
+  On work p e m = Lead t view spots bounds work₀ work best p e m
 
   abbrev E : Place → Cost
   E = reachedBy t bounds work₀
 
   abbrev led : List ℕ
   led = withLead work item lead
-
-  pub led-other : {d : ℕ} → (d ≡ item → ⊥) → getD led d 0 ≡ getD work d 0
-  led-other {d} e = getD-set-other work item d (wordOf (keyOf (getD work item 0)) (leadSlot lead)) 0 e
 
   -- this place has a lead now, which tells the move
   slot-here : (q : Place) → placeCode t q ≡ item → slotOf (getD led (placeCode t q) 0) ≡ leadSlot lead
@@ -74,11 +64,11 @@ module _ {t : Tech} {view : View} {spots bounds work₀ : List ℕ} {settled bes
   -- the others are as they were
   pub led-same : (q : Place) → (placeCode t q ≡ item → ⊥) → ledBy t led q ≡ ledBy t work q
   unfolding ledBy
-  led-same q e = ap (λ w. eqb (slotOf w / 4) 262142) (led-other e)
+  led-same q e = ap (λ w. eqb (slotOf w / 4) 262142) (lead-other work lead (placeCode t q) e)
 
   told-same : (q : Place) → (placeCode t q ≡ item → ⊥) → leadAt t led q ≡ leadAt t work q
   unfolding leadAt
-  told-same q e = ap (λ w. slotOf w % 4) (led-other e)
+  told-same q e = ap (λ w. slotOf w % 4) (lead-other work lead (placeCode t q) e)
 
   led-stays : (q : Place) → ledBy t work q ≡ true → ledBy t led q ≡ true
   led-stays q is = by (ℕ-discrete (placeCode t q) item)

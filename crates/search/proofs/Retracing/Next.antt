@@ -31,10 +31,10 @@ use Rattle.search.specs.Leads.{leadBy, lowestBy, OnlyMoves}
 use Rattle.search.proofs.Lawful.{lawful-by}
 use Rattle.search.proofs.Laying.{at-list, laid-room}
 use Rattle.search.proofs.Costing.{same-costs}
-use Rattle.search.proofs.Leads.{cost-told, same-reached, lead-none}
-use Rattle.search.proofs.Retracing.Places.{Lead, Found, Retracing}
+use Rattle.search.proofs.Leads.{cost-told, same-reached, Lead, lead-none}
+use Rattle.search.proofs.Retracing.Places.{Searched, Retracing}
 
-module _ {t : Tech} {view : View} {spots bounds work₀ : List ℕ} {settled best : ℕ} (found : Found t view spots bounds work₀ settled best) {near work : List ℕ} {before start : ℕ}
+module _ {t : Tech} {view : View} {spots bounds work₀ : List ℕ} {settled best : ℕ} (found : Searched t view spots bounds work₀ settled best) {near work : List ℕ} {before start : ℕ}
     (so-far : Retracing t view spots bounds work₀ settled best near work before start) (some-left : 0 < before) where
   -- the list is in the slice
   pub retracing-fits : (before - 1 < places t) × (places t ≤ 524288) × (places t + places t ≤ length work)
@@ -64,14 +64,14 @@ module _ {t : Tech} {view : View} {spots bounds work₀ : List ℕ} {settled bes
 
 -- the place with the next number of the list
 pub record Next (t : Tech) (view : View) (spots bounds work₀ : List ℕ) (settled best : ℕ) (near work : List ℕ) (before start item : ℕ) (here : Place) : Type 0 where
-  pub found : Found t view spots bounds work₀ settled best
+  pub found : Searched t view spots bounds work₀ settled best
   pub so-far : Retracing t view spots bounds work₀ settled best near work before start
   pub some-left : 0 < before
   pub is-item : listAt (places t) work₀ (before - 1) ≡ item
   pub on : GoodPlace t here
   pub is-here : placeCode t here ≡ item
 
-pub next-by : {t : Tech} {view : View} {spots bounds work₀ : List ℕ} {settled best : ℕ} → Found t view spots bounds work₀ settled best
+pub next-by : {t : Tech} {view : View} {spots bounds work₀ : List ℕ} {settled best : ℕ} → Searched t view spots bounds work₀ settled best
     → {near work : List ℕ} {before start item : ℕ} {here : Place} → Retracing t view spots bounds work₀ settled best near work before start → 0 < before
     → listAt (places t) work₀ (before - 1) ≡ item → GoodPlace t here → placeCode t here ≡ item
     → Next t view spots bounds work₀ settled best near work before start item here
@@ -115,11 +115,11 @@ module _ {t : Tech} {view : View} {spots bounds work₀ : List ℕ} {settled bes
   next-here good e = lawful-by view spots (found .fine) .apart good on (e ∙ sym is-here)
 
   -- what the entries say of a move, in the costs before the first lead
-  pub lead-was : {p : Place} {e m : ℕ} → Leads (systemBy t view spots) (reachedBy t bounds work) best (λ q. ledBy t work q ≡ true) p e m → Lead t view spots bounds work₀ settled best work p e m
+  pub lead-was : {p : Place} {e m : ℕ} → Lead t view spots bounds work work best p e m → Lead t view spots bounds work₀ work best p e m
   lead-was {p} {e} {m} lead =
       subst (λ (D : Place → Cost). Leads (systemBy t view spots) D best (λ q. ledBy t work q ≡ true) p e m) (same-reached t bounds work work₀ (so-far .same)) lead
 
-  lead-is : {p : Place} {e m : ℕ} → Lead t view spots bounds work₀ settled best work p e m → Leads (systemBy t view spots) (reachedBy t bounds work) best (λ q. ledBy t work q ≡ true) p e m
+  lead-is : {p : Place} {e m : ℕ} → Lead t view spots bounds work₀ work best p e m → Lead t view spots bounds work work best p e m
   lead-is {p} {e} {m} lead =
       subst (λ (D : Place → Cost). Leads (systemBy t view spots) D best (λ q. ledBy t work q ≡ true) p e m) (sym (same-reached t bounds work work₀ (so-far .same))) lead
 
@@ -127,7 +127,7 @@ module _ {t : Tech} {view : View} {spots bounds work₀ : List ℕ} {settled bes
   pub retracing-only : (e : ℕ) → costs t bounds work item ≡ suc e → OnlyMoves t view spots bounds work best here e (getD near (here .vertex) 0)
   retracing-only e is m less off = by (leadBy t view spots bounds work best e (systemBy t view spots .step here m)) refl
     where
-      has : Lead t view spots bounds work₀ settled best work here e m → HasMove (getD near (here .vertex) 0) m
+      has : Lead t view spots bounds work₀ work best here e m → HasMove (getD near (here .vertex) 0) m
       has (ends legal g sum) = so-far .goals on (rw is-here next-done₀) legal g
       has (goesOn legal g at-q led) = so-far .lit on legal led
 
@@ -137,7 +137,7 @@ module _ {t : Tech} {view : View} {spots bounds work₀ : List ℕ} {settled bes
 
   -- where no move leads on
   module _ (none : (e : ℕ) → costs t bounds work item ≡ suc e → 4 ≤ lowestBy t view spots bounds work best here e) where
-    no-lead : {e m : ℕ} → reachedBy t bounds work₀ here ≡ fin e → Lead t view spots bounds work₀ settled best work here e m → ⊥
+    no-lead : {e m : ℕ} → reachedBy t bounds work₀ here ≡ fin e → Lead t view spots bounds work₀ work best here e m → ⊥
     no-lead {e} at-e lead = lead-none t view spots bounds work best here e (none e (next-cost at-e)) (lead-is lead)
 
     pub retracing-none : Retracing t view spots bounds work₀ settled best near work (before - 1) start
@@ -161,11 +161,11 @@ module _ {t : Tech} {view : View} {spots bounds work₀ : List ℕ} {settled bes
         }
       where
         by : (i : ℕ) → before - 1 ≤ i → i < settled → {p : Place} {e m : ℕ} → GoodPlace t p → placeCode t p ≡ listAt (places t) work₀ i → reachedBy t bounds work₀ p ≡ fin e
-            → Lead t view spots bounds work₀ settled best work p e m → Dec (i ≡ (before - 1)) → ledBy t work p ≡ true
+            → Lead t view spots bounds work₀ work best p e m → Dec (i ≡ (before - 1)) → ledBy t work p ≡ true
         by i h k {p} {e} {m} good code at-e lead (no f) = so-far .made i (omega arith) k good code at-e lead
         by i h k {p} {e} {m} good code at-e lead (yes f) =
             let same = next-here good (code ∙ ap (listAt (places t) work₀) f ∙ is-item) in
-            absurd (no-lead (rw same at at-e) (subst (λ (x : Place). Lead t view spots bounds work₀ settled best work x e m) same lead))
+            absurd (no-lead (rw same at at-e) (subst (λ (x : Place). Lead t view spots bounds work₀ work best x e m) same lead))
 
         tells : (i : ℕ) → before - 1 ≤ i → i < settled → {p : Place} {e : ℕ} → GoodPlace t p → placeCode t p ≡ listAt (places t) work₀ i → reachedBy t bounds work₀ p ≡ fin e
             → ledBy t work p ≡ true → Dec (i ≡ (before - 1)) → leadAt t work p ≡ lowestLead (systemBy t view spots) (reachedBy t bounds work₀) best (ledBy t work) p e
@@ -173,4 +173,4 @@ module _ {t : Tech} {view : View} {spots bounds work₀ : List ℕ} {settled bes
         tells i h k {p} {e} good code at-e is (yes f) =
             let same = next-here good (code ∙ ap (listAt (places t) work₀) f ∙ is-item) in
             let (m, lead) = so-far .leads good at-e is in
-            absurd (no-lead (rw same at at-e) (subst (λ (x : Place). Lead t view spots bounds work₀ settled best work x e m) same lead))
+            absurd (no-lead (rw same at at-e) (subst (λ (x : Place). Lead t view spots bounds work₀ work best x e m) same lead))

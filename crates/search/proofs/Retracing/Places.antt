@@ -1,8 +1,7 @@
 -- Places get leads from the last settled one to the first.
---     Lead               a move leads to a goal at the best cost, or on to a lead
---     Found, found-by    what a search that found an unjoined pin has left
---     Retracing          so many settled places are not asked
---     retracing-begun    none is asked yet
+--     Searched, searched-by    what a search that found an unjoined pin has left
+--     Retracing                so many settled places are not asked
+--     retracing-begun          none is asked yet
 use Prim.Native.Nat.{ℕ, _/_, _≤_, _<_}
 use mathlib.Core.Path.{_≡_, refl}
 use mathlib.Core.List.{List}
@@ -15,7 +14,7 @@ use Rattle.job.specs.Grid.{vertices}
 use Rattle.paths.specs.Systems.{Legal}
 use Rattle.paths.specs.Distances.{Cost, fin}
 use Rattle.paths.specs.Starts.{Starts}
-use Rattle.paths.specs.Leads.{Leads, lowestLead, isLed}
+use Rattle.paths.specs.Leads.{lowestLead, isLed}
 use Rattle.rules.specs.Tracks.{at}
 use Rattle.rules.specs.Views.{View}
 use Rattle.rules.specs.Segments.{Place}
@@ -32,15 +31,11 @@ use Rattle.search.specs.Lists.{listAt, Done, Laid}
 use Rattle.search.specs.Bits.{HasMove}
 use Rattle.search.specs.Spreads.{keys, Ended}
 use Rattle.search.proofs.Lawful.{lawful-by}
-use Rattle.search.proofs.Leads.{led-told}
+use Rattle.search.proofs.Leads.{led-told, Lead}
 
 module _ (t : Tech) (view : View) (spots bounds work₀ : List ℕ) (settled best : ℕ) where
-  -- a move leads to a goal at the best cost, or on to a lead of the slice
-  abbrev pub Lead : (work : List ℕ) → Place → (e m : ℕ) → Type 0
-  Lead work p e m = Leads (systemBy t view spots) (reachedBy t bounds work₀) best (λ q. ledBy t work q ≡ true) p e m
-
   -- what a search that found an unjoined pin has left
-  pub record Found : Type 0 where
+  pub record Searched : Type 0 where
     pub fine : GoodTech t
     pub bounding : Bounding t spots bounds
     pub near : List ℕ
@@ -63,9 +58,9 @@ module _ (t : Tech) (view : View) (spots bounds work₀ : List ℕ) (settled bes
     pub rest : (j : ℕ) → places t ≤ j → getD work j 0 ≡ getD work₀ j 0
     pub laid : (size last : ℕ) → Laid (places t) size settled last work₀ → Laid (places t) size settled last work
     pub within : {p : Place} {e : ℕ} → GoodPlace t p → E p ≡ fin e → ledBy t work p ≡ true → e ≤ best
-    pub leads : {p : Place} {e : ℕ} → GoodPlace t p → E p ≡ fin e → ledBy t work p ≡ true → (m : ℕ) × Lead work p e m
+    pub leads : {p : Place} {e : ℕ} → GoodPlace t p → E p ≡ fin e → ledBy t work p ≡ true → (m : ℕ) × Lead t view spots bounds work₀ work best p e m
     pub made : (i : ℕ) → left ≤ i → i < settled → {p : Place} {e m : ℕ} → GoodPlace t p → placeCode t p ≡ listAt (places t) work₀ i → E p ≡ fin e
-        → Lead work p e m → ledBy t work p ≡ true
+        → Lead t view spots bounds work₀ work best p e m → ledBy t work p ≡ true
     pub told : (i : ℕ) → left ≤ i → i < settled → {p : Place} {e : ℕ} → GoodPlace t p → placeCode t p ≡ listAt (places t) work₀ i → E p ≡ fin e
         → ledBy t work p ≡ true → leadAt t work p ≡ lowestLead (systemBy t view spots) E best (ledBy t work) p e
     pub goals : {p q : Place} {m c : ℕ} → GoodPlace t p → Done (places t) work₀ (placeCode t p) → Legal (systemBy t view spots) p m c q → eqb (getD spots (q .vertex) 0) 2 ≡ true
@@ -77,13 +72,13 @@ module _ (t : Tech) (view : View) (spots bounds work₀ : List ℕ) (settled bes
     pub there : start < vertices (t .grid) → isLed X (ledBy t work) start ≡ true
 
 module _ {t : Tech} {view : View} {spots bounds work₀ : List ℕ} {settled best : ℕ} where
-  abbrev pub found-by : GoodTech t → Bounding t spots bounds → {near : List ℕ} {size : ℕ} → Ended t view spots bounds near work₀ size settled best
-      → Found t view spots bounds work₀ settled best
-  found-by fine bounding {near} {size} ended = record { fine = fine; bounding = bounding; near = near; size = size; ended = ended }
+  abbrev pub searched-by : GoodTech t → Bounding t spots bounds → {near : List ℕ} {size : ℕ} → Ended t view spots bounds near work₀ size settled best
+      → Searched t view spots bounds work₀ settled best
+  searched-by fine bounding {near} {size} ended = record { fine = fine; bounding = bounding; near = near; size = size; ended = ended }
 
 -- ---- before the first
 
-module _ {t : Tech} {view : View} {spots bounds work₀ : List ℕ} {settled best : ℕ} (found : Found t view spots bounds work₀ settled best) where
+module _ {t : Tech} {view : View} {spots bounds work₀ : List ℕ} {settled best : ℕ} (found : Searched t view spots bounds work₀ settled best) where
   -- no place has a lead
   no-lead : (c : ℕ) → c < places t → slotOf (getD work₀ c 0) / 4 ≡ 262142 → ⊥
   unfolding slotOf

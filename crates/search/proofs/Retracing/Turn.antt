@@ -22,15 +22,15 @@ use Rattle.rules.specs.Prices.{Tech}
 use Rattle.rules.specs.Walks.{startAt}
 use Rattle.rules.specs.Places.{placeCode, GoodPlace, GoodTech}
 use Rattle.rules.proofs.Places.{start-good}
-use Rattle.search.specs.Fronts.{systemBy, startsBy, costs, ledBy}
+use Rattle.search.specs.Fronts.{systemBy, startsBy, costs, ledBy, withLead}
 use Rattle.search.specs.Bits.{HasMove}
 use Rattle.search.specs.Leads.{lowestBy, Answered}
 use Rattle.search.proofs.Lawful.{lawful-by, legal-enters, starts-good}
-use Rattle.search.proofs.Putting.{lead-keys, lead-there, laid-lead}
+use Rattle.search.proofs.Putting.{lead-other, lead-keys, lead-there, laid-lead}
 use Rattle.search.proofs.Answering.{led-cost}
 use Rattle.search.proofs.Retracing.Places.{Retracing}
 use Rattle.search.proofs.Retracing.Next.{Next, next-now, next-more, next-known, next-done, next-same, next-here, retracing-none}
-use Rattle.search.proofs.Retracing.Led.{withLead, led-other, led-here, led-same, told-on, made-on, within-on, leads-on, start-same}
+use Rattle.search.proofs.Retracing.Led.{led-here, led-same, told-on, made-on, within-on, leads-on, start-same}
 
 module _ {t : Tech} (view : View) (spots : List ℕ) (fine : GoodTech t) where
   -- the end of a walk is a good place
@@ -74,7 +74,7 @@ module _ {t : Tech} {view : View} {spots bounds work₀ : List ℕ} {settled bes
             few = omega (arith, next-more n);
             long = length-set work item _ ∙ so-far .long;
             same = λ d. lead-keys work (lead-there (next-now n) (next-known n) (next-done n) lead few) lead few d ∙ so-far .same d;
-            rest = λ j h. led-other n few some (λ e. omega (arith, next-known n)) ∙ so-far .rest j h;
+            rest = λ j h. lead-other work lead j (λ e. omega (arith, next-known n)) ∙ so-far .rest j h;
             laid = λ size last l. laid-lead (so-far .laid size last l) (next-known n) (next-done n) lead few;
             within = within-on n few some;
             leads = leads-on n few some;

@@ -49,10 +49,10 @@ loop-less c = search needs
 
 loop-again : tie.Need-loop-again Inv-loop μ-loop
 loop-again c =
-    let called = c .before .before .before .before .before in
-    let h = called .before .before in
-    let stands = box-told (h .before .before .args .s .now) (h .loop .at) (omega arith) (called .box-group .ensures) (c .before .before .before .b .given .1) in
-    boxes-turn (called .before .loop-test .taken) (h .loop .inv) stands (c .store-box .ensures)
+    let start = c .before .before .before .before .before in
+    let h = start .before .before in
+    let stands = box-told (h .before .before .args .s .now) (h .loop .at) (omega arith) (start .box-group .ensures) (c .before .before .before .b .given .1) in
+    boxes-turn (start .before .loop-test .taken) (h .loop .inv) stands (c .store-box .ensures)
 
 returns-2 : tie.Need-returns-2 Inv-loop μ-loop
 returns-2 c = boxes-end (c .loop-test .left) (c .before .loop .inv)

@@ -31,9 +31,9 @@ enum-told c = search needs
 
 returns : tie.Need-returns
 returns c =
-    let called = c .before .before .before .before .before .before .before in
-    let pre = called .pre in
-    let args = called .args in
+    let start = c .before .before .before .before .before .before .before in
+    let pre = start .pre in
+    let args = start .args in
     lead-stopped _ _ (args .spots .now) (args .bounds .now) (args .work .now) (args .best) (args .settled .distance)
     (led-not (pre .0) _ _ (c .before .before .step-from .ensures _ (settled-here (pre .0) (pre .1)) refl) (c .enum-told .given .1))
 
@@ -55,9 +55,8 @@ element-copy-out-if1 c =
 returns-2 : tie.Need-returns-2
 returns-2 c =
     let made = c .before .before .before .before .before .before in
-    let called = start made in
-    let pre = called .pre in
-    let args = called .args in
+    let pre = start made .pre in
+    let args = start made .args in
     let l = legal made in
     lead-goal _ _ (args .spots .now) (args .bounds .now) (args .work .now) (args .best) (args .settled .distance) (l .leads) (c .if1 .taken)
 
@@ -84,9 +83,8 @@ shared-slice-read-word c =
 returns-3 : tie.Need-returns-3
 returns-3 c =
     let made = c .before .before .before .before .before .before .before .before .before in
-    let called = start made in
-    let pre = called .pre in
-    let args = called .args in
+    let pre = start made .pre in
+    let args = start made .args in
     let l = legal made in
     lead-bare _ _ (args .spots .now) (args .bounds .now) (args .work .now) (args .best) (args .settled .distance) (l .leads) (c .before .before .before .if1 .left)
     (code-made (pre .0 .fits) _ (l .good) (c .before .before .code-of .ensures)) (c .if2 .taken)
@@ -137,9 +135,8 @@ add-result-3 c =
 returns-4 : tie.Need-returns-4
 returns-4 c =
     let made = c .before .before .before .before .before .before .before .before .before .before in
-    let called = start made in
-    let args = called .args in
-    let pre = called .pre in
+    let args = start made .args in
+    let pre = start made .pre in
     let l = legal made in
     lead-led _ _ (args .spots .now) (args .bounds .now) (args .work .now) (args .best) (args .settled .distance) (l .leads) (c .before .before .before .before .if1 .left)
     (code-made (pre .0 .fits) _ (l .good) (c .before .before .before .code-of .ensures))

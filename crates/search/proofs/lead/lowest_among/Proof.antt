@@ -39,13 +39,13 @@ loop-less c = omega (arith, c .before .before .loop-test .taken)
 
 loop-again : tie.Need-loop-again Inv-loop μ-loop
 loop-again c =
-    let called = c .before .before .before .before .before in
+    let start = c .before .before .before .before .before in
     let inv = c .before .before .before .loop .inv in
     let more = c .before .before .loop-test .taken in
-    let args = called .args in
+    let args = start .args in
     elim (c .if1 .came) [
       | inl did ↦ untried-on _ _ _ _ _ _ _ inv more (did .1 .ensures) (did .2 .left)
-      | inr not ↦ untried-skip _ _ (args .spots .now) (args .bounds .now) (args .work .now) (args .best) _ inv (args .moves) (called .pre .4) more
+      | inr not ↦ untried-skip _ _ (args .spots .now) (args .bounds .now) (args .work .now) (args .best) _ inv (args .moves) (start .pre .4) more
           (eqb-false _ 1 (sym (c .before .has-move .ensures) ∙ not .left))
     ]
 

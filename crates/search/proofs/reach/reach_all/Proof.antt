@@ -35,16 +35,16 @@ bound-of-requires c κs =
 
 sub-distance : tie.Need-sub-distance Inv-loop μ-loop
 sub-distance c =
-    let called = c .before .before .before .before in
-    let pre = called .pre in
-    omega (arith, item-bound (pre .0) (pre .1 .3 .known) _ (c .before .before .place-of .ensures) (called .args .bounds .now) (c .before .vertex-by .ensures) (c .bound-of .ensures), pre .1 .2)
+    let start = c .before .before .before .before in
+    let pre = start .pre in
+    omega (arith, item-bound (pre .0) (pre .1 .3 .known) _ (c .before .before .place-of .ensures) (start .args .bounds .now) (c .before .vertex-by .ensures) (c .bound-of .ensures), pre .1 .2)
 
 loop-holds : tie.Need-loop-holds Inv-loop μ-loop
 unfolding OwedFor
 loop-holds c =
-    let called = c .before .before .before .before in
-    let pre = called .pre in
-    let left = item-bound (pre .0) (pre .1 .3 .known) _ (c .before .before .place-of .ensures) (called .args .bounds .now) (c .before .vertex-by .ensures) (c .bound-of .ensures) in
+    let start = c .before .before .before .before in
+    let pre = start .pre in
+    let left = item-bound (pre .0) (pre .1 .3 .known) _ (c .before .before .place-of .ensures) (start .args .bounds .now) (c .before .vertex-by .ensures) (c .bound-of .ensures) in
     (trying-begun _ _ _ _ _ _ _ _ _ _ (pre .1 .0, rw (left, distance-by _ _ _ (pre .1 .2)) (pre .1 .3)), λ asked. absurd (omega (arith, asked)))
 
 reach-requires : tie.Need-reach-requires Inv-loop μ-loop
@@ -82,10 +82,10 @@ same-length c = search needs
 
 returns : tie.Need-returns Inv-loop μ-loop
 returns c =
-    let called = c .before .before .before .before .before .before .before in
-    let pre = called .pre in
+    let start = c .before .before .before .before .before .before .before in
+    let pre = start .pre in
     let inv = c .before .before .loop .inv .0 in
-    let left = item-bound (pre .0) (pre .1 .3 .known) _ (c .before .before .before .before .before .place-of .ensures) (called .args .bounds .now) (c .before .before .before .before .vertex-by .ensures) (c .before .before .before .bound-of .ensures) in
+    let left = item-bound (pre .0) (pre .1 .3 .known) _ (c .before .before .before .before .before .place-of .ensures) (start .args .bounds .now) (c .before .before .before .before .vertex-by .ensures) (c .before .before .before .bound-of .ensures) in
     let all : c .before .before .loop .number ≡ 4 = omega (arith, inv .few, c .before .loop-test .left) in
     (λ settled distance is. rw (left, distance-by _ _ distance is, all) at (inv .turns settled), inv .kept)
 

@@ -45,9 +45,9 @@ element-write-near c =
 returns-2 : tie.Need-returns-2
 returns-2 c =
     let known = c .before .before .before in
-    let entry = known .before .before .before in
-    let pre = entry .pre in
-    let near = entry .args .near .now in
+    let start = known .before .before .before in
+    let pre = start .pre in
+    let near = start .args .near .now in
     let entered = known .before .before .entered-by .ensures in
     let into = known .u .given .1 in
     rw (c .with-move .ensures)

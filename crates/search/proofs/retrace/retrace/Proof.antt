@@ -3,7 +3,7 @@ use borrow.Author.Needs.{needs}
 use native.Mathlib.Omega.{arith}
 use Rattle.rules.specs.Structs.{techBy, seenBy}
 use Rattle.search.proofs.Answering.{item-place}
-use Rattle.search.proofs.Retracing.Places.{Retracing, found-by, retracing-begun}
+use Rattle.search.proofs.Retracing.Places.{Retracing, searched-by, retracing-begun}
 use Rattle.search.proofs.Retracing.Next.{next-by, retracing-fits, retracing-read, retracing-asked, retracing-only}
 use Rattle.search.proofs.Retracing.Turn.{retracing-on}
 use Rattle.search.proofs.Retracing.Charted.{retracing-charted, retracing-lowest, retracing-kept}
@@ -27,7 +27,7 @@ loop-holds : tie.Need-loop-holds Inv-loop μ-loop
 unfolding techBy
 loop-holds c =
     let pre = c .before .before .before .pre in
-    rw (c .vertices .ensures) (retracing-begun (found-by (pre .0 .good) (pre .4) (pre .3 .1)))
+    rw (c .vertices .ensures) (retracing-begun (searched-by (pre .0 .good) (pre .4) (pre .3 .1)))
 
 sub-left : tie.Need-sub-left Inv-loop μ-loop
 sub-left c = search needs
@@ -35,39 +35,39 @@ sub-left c = search needs
 add-item : tie.Need-add-item Inv-loop μ-loop
 add-item c =
     let pre = c .before .before .before .before .before .pre in
-    let fits = retracing-fits (found-by (pre .0 .good) (pre .4) (pre .3 .1)) (c .before .loop .inv) (c .loop-test .taken) in
+    let fits = retracing-fits (searched-by (pre .0 .good) (pre .4) (pre .3 .1)) (c .before .loop .inv) (c .loop-test .taken) in
     omega (arith, c .before .before .before .places .ensures, fits .1)
 
 sub-item : tie.Need-sub-item Inv-loop μ-loop
 sub-item c =
     let pre = c .before .before .before .before .before .pre in
-    let fits = retracing-fits (found-by (pre .0 .good) (pre .4) (pre .3 .1)) (c .before .loop .inv) (c .loop-test .taken) in
+    let fits = retracing-fits (searched-by (pre .0 .good) (pre .4) (pre .3 .1)) (c .before .loop .inv) (c .loop-test .taken) in
     omega (arith, c .before .before .before .places .ensures, fits .0)
 
 sub-item-2 : tie.Need-sub-item-2 Inv-loop μ-loop
 sub-item-2 c =
     let pre = c .before .before .before .before .before .pre in
-    let fits = retracing-fits (found-by (pre .0 .good) (pre .4) (pre .3 .1)) (c .before .loop .inv) (c .loop-test .taken) in
+    let fits = retracing-fits (searched-by (pre .0 .good) (pre .4) (pre .3 .1)) (c .before .loop .inv) (c .loop-test .taken) in
     omega (arith, c .before .before .before .places .ensures, fits .0)
 
 mul-item : tie.Need-mul-item Inv-loop μ-loop
 mul-item c =
     let pre = c .before .before .before .before .before .pre in
-    let fits = retracing-fits (found-by (pre .0 .good) (pre .4) (pre .3 .1)) (c .before .loop .inv) (c .loop-test .taken) in
+    let fits = retracing-fits (searched-by (pre .0 .good) (pre .4) (pre .3 .1)) (c .before .loop .inv) (c .loop-test .taken) in
     omega (arith, c .before .before .before .places .ensures, fits .0, fits .1)
 
 slice-read-item : tie.Need-slice-read-item Inv-loop μ-loop
 slice-read-item c =
     let turn = c .before .before in
     let pre = turn .before .before .before .before .pre in
-    let fits = retracing-fits (found-by (pre .0 .good) (pre .4) (pre .3 .1)) (turn .loop .inv) (c .before .loop-test .taken) in
+    let fits = retracing-fits (searched-by (pre .0 .good) (pre .4) (pre .3 .1)) (turn .loop .inv) (c .before .loop-test .taken) in
     omega (arith, turn .before .before .places .ensures, fits .0, fits .2)
 
 retrace-place-requires : tie.Need-retrace-place-requires Inv-loop μ-loop
 retrace-place-requires c κs =
     let turn = c .before .before .before .before in
     let pre = turn .before .before .before .before .pre in
-    let found = found-by (pre .0 .good) (pre .4) (pre .3 .1) in
+    let found = searched-by (pre .0 .good) (pre .4) (pre .3 .1) in
     let inv = turn .loop .inv in
     let more = c .before .before .before .loop-test .taken in
     let fits = retracing-fits found inv more in
@@ -84,7 +84,7 @@ loop-again : tie.Need-loop-again Inv-loop μ-loop
 loop-again c =
     let turn = c .before .before .before .before .before .before .before in
     let pre = turn .before .before .before .before .pre in
-    let found = found-by (pre .0 .good) (pre .4) (pre .3 .1) in
+    let found = searched-by (pre .0 .good) (pre .4) (pre .3 .1) in
     let inv = turn .loop .inv in
     let more = c .before .before .before .before .before .before .loop-test .taken in
     let read = retracing-read found inv more (turn .before .before .places .ensures) in
@@ -98,7 +98,7 @@ same-length c = c .before .loop .inv .long
 returns : tie.Need-returns Inv-loop μ-loop
 returns c =
     let pre = c .before .before .before .before .before .pre in
-    let found = found-by (pre .0 .good) (pre .4) (pre .3 .1) in
+    let found = searched-by (pre .0 .good) (pre .4) (pre .3 .1) in
     let inv = c .before .loop .inv in
     let all = c .loop-test .left in
     (retracing-charted found inv all (pre .2), (retracing-lowest found inv all, (inv .laid, retracing-kept found inv all)))

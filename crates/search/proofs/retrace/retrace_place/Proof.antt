@@ -22,12 +22,12 @@ element-copy-out-moves c = let pre = c .before .before .pre .0 in vertex-here (p
 
 returns : tie.Need-returns
 returns c =
-    let entry = c .before .before .before .before in
-    let args = entry .args in
+    let start = c .before .before .before .before in
+    let args = start .args in
     let vertex = ap (λ (p : Place). p .vertex) (c .before .before .place-of .ensures) in
     let here = placeAt (args .tech .largest) (args .item) in
-    answered-not (asked-not (entry .pre .0 .4) (λ e is.
-    only-none _ _ (args .spots .now) (args .bounds .now) (args .work .now) (args .best) here e (rw vertex at (c .if1 .taken)) (entry .pre .1 e is)))
+    answered-not (asked-not (start .pre .0 .4) (λ e is.
+    only-none _ _ (args .spots .now) (args .bounds .now) (args .work .now) (args .best) here e (rw vertex at (c .if1 .taken)) (start .pre .1 e is)))
 
 vertex-by-requires : tie.Need-vertex-by-requires
 vertex-by-requires c κs = let pre = c .before .before .before .before .pre .0 in vertex-on (pre .0) _ (item-good (pre .0) (pre .2) _ (c .before .before .place-of .ensures))
@@ -47,24 +47,24 @@ bound-of-requires c κs =
 sub-distance-2 : tie.Need-sub-distance-2
 sub-distance-2 c =
     let placed = c .before .before .before .before .before .before in
-    let entry = placed .before .before in
-    let pre = entry .pre .0 in
-    let args = entry .args in
+    let start = placed .before .before in
+    let pre = start .pre .0 in
+    let args = start .args in
     omega (arith, item-key (pre .0) (pre .2) _ (placed .place-of .ensures) (args .bounds .now) (args .work .now) (c .before .before .before .vertex-by .ensures) (pre .5) (c .before .key-of .ensures) (c .bound-of .ensures))
 
 lowest-among-requires : tie.Need-lowest-among-requires
 lowest-among-requires c κs =
     let told = c .before .before .before .before in
     let placed = told .before .before .before in
-    let entry = placed .before .before in
-    let pre = entry .pre .0 in
-    let args = entry .args in
+    let start = placed .before .before in
+    let pre = start .pre .0 in
+    let args = start .args in
     let is = placed .place-of .ensures in
     let vertex = ap (λ (p : Place). p .vertex) is in
     let at = told .vertex-by .ensures in
     let cost = item-distance (pre .0) (pre .2) _ is (args .bounds .now) (args .work .now) at (pre .5) (c .before .before .key-of .ensures) (c .before .bound-of .ensures) in
     let good = item-good (pre .0) (pre .2) _ is in
-    (record { fits = pre .0; good = good; is = at; below = omega (arith, cost, pre .7) }, pre .1, pre .3, pre .8, rw (is, vertex, cost) (entry .pre .1 _ (omega (arith, pre .5))))
+    (record { fits = pre .0; good = good; is = at; below = omega (arith, cost, pre .7) }, pre .1, pre .3, pre .8, rw (is, vertex, cost) (start .pre .1 _ (omega (arith, pre .5))))
 
 same-length : tie.Need-same-length
 same-length c = search needs
@@ -74,9 +74,9 @@ returns-2 c =
     let bounded = c .before .before .before in
     let told = bounded .before .before .before in
     let placed = told .before .before .before in
-    let entry = placed .before .before in
-    let pre = entry .pre .0 in
-    let args = entry .args in
+    let start = placed .before .before in
+    let pre = start .pre .0 in
+    let args = start .args in
     let is = placed .place-of .ensures in
     let cost = item-distance (pre .0) (pre .2) _ is (args .bounds .now) (args .work .now) (told .vertex-by .ensures) (pre .5) (bounded .before .key-of .ensures) (bounded .bound-of .ensures) in
     let told = item-lowest (pre .0) (pre .2) _ is (args .bounds .now) (args .work .now) (seenBy (args .tech) (args .seen .now)) (args .spots .now) (args .best) cost (c .before .lowest-among .ensures) in
@@ -107,9 +107,9 @@ returns-3 c =
     let bounded = led .before .before in
     let told = bounded .before .before .before in
     let placed = told .before .before .before in
-    let entry = placed .before .before in
-    let pre = entry .pre .0 in
-    let args = entry .args in
+    let start = placed .before .before in
+    let pre = start .pre .0 in
+    let args = start .args in
     let is = placed .place-of .ensures in
     let vertex = ap (λ (p : Place). p .vertex) is in
     let cost = item-distance (pre .0) (pre .2) _ is (args .bounds .now) (args .work .now) (told .vertex-by .ensures) (pre .5) (bounded .before .key-of .ensures) (bounded .bound-of .ensures) in

@@ -36,9 +36,9 @@ same-length c = search needs
 
 returns-2 : tie.Need-returns-2
 returns-2 c =
-    let called = c .before .before .before .before .before .before .before .before .before .before in
-    let pre = called .pre in
-    let left = start-left (pre .0) (pre .2) (called .args .bounds .now) (c .before .before .before .bound-at .ensures) in
+    let start = c .before .before .before .before .before .before .before .before .before .before in
+    let pre = start .pre in
+    let left = start-left (pre .0) (pre .2) (start .args .bounds .now) (c .before .before .before .bound-at .ensures) in
     let made = start-made (pre .0) (pre .2) (c .before .before .before .before .before .before .code-of .ensures) in
     (λ off. absurd (off (c .before .before .before .before .before .before .before .if1 .left)), λ on. rw (← left, ← made, ← c .before .before .before .before .places .ensures) (c .before .before .lower .ensures))
 

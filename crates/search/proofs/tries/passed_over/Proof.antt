@@ -48,10 +48,10 @@ add-result-3 c =
 
 returns-2 : tie.Need-returns-2
 returns-2 c e =
-    let called = c .before .before .before .before .before .before in
-    let args = called .args in
+    let start = c .before .before .before .before .before .before in
+    let args = start .args in
     let read = c .before .before .before .key-of in
-    let pre = called .pre in
+    let pre = start .pre in
     let code = fresh-made (pre .0) _ (pre .3) (c .before .before .before .before .code-of .ensures) in
     let left = fresh-left (pre .0) _ (pre .3) _ (c .before .bound-entered .ensures) in
     let key = read .ensures ∙ ap (λ x. keyOf (getD (args .work .now) x 0)) code in

@@ -7,16 +7,16 @@ use Rattle.job.proofs.grid.Grid.number.Statement.{statement}
 use Rattle.job.proofs.grid.Grid.number.Tie as tie
 
 mul-result : tie.Need-mul-result
-mul-result c = let entry = c .before .before in omega (arith, number-fits (entry .args .self) (entry .args .v) (entry .pre .0) (entry .pre .1))
+mul-result c = let start = c .before .before in omega (arith, number-fits (start .args .self) (start .args .v) (start .pre .0) (start .pre .1))
 
 add-result : tie.Need-add-result
-add-result c = let entry = c .before .before .before in omega (arith, number-fits (entry .args .self) (entry .args .v) (entry .pre .0) (entry .pre .1))
+add-result c = let start = c .before .before .before in omega (arith, number-fits (start .args .self) (start .args .v) (start .pre .0) (start .pre .1))
 
 mul-result-2 : tie.Need-mul-result-2
-mul-result-2 c = let entry = c .before .before .before .before in omega (arith, number-fits (entry .args .self) (entry .args .v) (entry .pre .0) (entry .pre .1))
+mul-result-2 c = let start = c .before .before .before .before in omega (arith, number-fits (start .args .self) (start .args .v) (start .pre .0) (start .pre .1))
 
 add-result-2 : tie.Need-add-result-2
-add-result-2 c = let entry = c .before .before .before .before .before in omega (arith, number-fits (entry .args .self) (entry .args .v) (entry .pre .0) (entry .pre .1))
+add-result-2 c = let start = c .before .before .before .before .before in omega (arith, number-fits (start .args .self) (start .args .v) (start .pre .0) (start .pre .1))
 
 returns : tie.Need-returns
 unfolding vertexNumber

@@ -1,4 +1,4 @@
--- The item at the front taken out, w the slice as found: the item leaves, and the last goes to its seat.
+-- The item at the front removed, w the slice as found: the item leaves, and the last goes to its seat.
 --     lastOf, filled     the last item, and the slice with it in the seat of the item that has left
 --     one-..             there was one item
 --     many-..            there were more: the last goes to the front and may sink from there
