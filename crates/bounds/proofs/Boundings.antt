@@ -2,7 +2,7 @@
 --     filled-small     all of its entries are small
 --     bounding         it is such a bound
 --     bounds-made      the same of what the code makes
-use Prim.Native.Nat.{ℕ, zero, suc, _+_, _-_, _*_, _%_, _≤_, _<_}
+use Prim.Native.Nat.{ℕ, _+_, _-_, _*_, _≤_, _<_}
 use mathlib.Core.Path.{_≡_, refl, ap, _∙_}
 use mathlib.Core.List.{List}
 use native.Mathlib.Omega.{arith}
@@ -15,8 +15,8 @@ use Rattle.paths.specs.Systems.{to}
 use Rattle.paths.specs.Distances.{Cost, fin, inf, plus}
 use Rattle.rules.specs.Tracks.{layerOf, rowOf, columnOf}
 use Rattle.rules.specs.Views.{View}
-use Rattle.rules.specs.Segments.{kindOf, Place}
-use Rattle.rules.specs.Prices.{Tech, lineOf, base, guideAt, shortAt, sumCost, entering}
+use Rattle.rules.specs.Segments.{Direction, low, high, Kind, along, kindOf, Place}
+use Rattle.rules.specs.Prices.{Tech, base, guideAt, shortAt, sumCost, entering}
 use Rattle.rules.specs.Steps.{step, priced}
 use Rattle.rules.specs.Places.{GoodPlace}
 use Rattle.rules.specs.Structs.{TechFits, lineAt, techBy}
@@ -29,7 +29,7 @@ use Rattle.rules.proofs.Held.{line-held}
 use Rattle.rules.proofs.Lists.{Filled}
 use Rattle.bounds.specs.Bounds.{boundAt, SmallBounds, Bounding}
 use Rattle.bounds.specs.Fills.{Among, unjoinedBox, cheapestOf, leaves, axisFilled, filled}
-use Rattle.bounds.proofs.Coordinates.{Changed, column, row, layer, changed, small-sum}
+use Rattle.bounds.proofs.Coordinates.{OneOn, viaOn, one-near, Changed, column, row, layer, changed, small-sum}
 use Rattle.bounds.proofs.Axes.{leaves-none, leaves-next, axis-told, axis-small, cheapest-fits, cheapest-of}
 use Rattle.bounds.proofs.Boxes.{box-low, box-holds}
 
@@ -47,35 +47,24 @@ entering-least t view v w m e = plus-least (base t v w m) (sumCost (guideAt t vi
 
 module _ {t : TechStruct} (tech : TechFits t) {v w : ℕ} (on : v < vertices (gridOf (t .grid))) (into : w < vertices (gridOf (t .grid))) where
   -- a step costs at least the cheapest wire
-  wire-least : (m : ℕ) → m < 2 → cheapestOf (t .layers .wire) (t .grid .layers) ≤ base (techBy t) v w m
-  unfolding base kindOf lineAt
-  wire-least m few = by m few
-    where
-      least : cheapestOf (t .layers .wire) (t .grid .layers) ≤ lineOf (techBy t) w .wire
-      least =
-          let held = ap (λ (l : LayerStruct). l .wire) (line-held tech into) in
-          omega (arith, held, cheapest-of (t .layers .wire) _ _ (vertex-below (gridOf (t .grid)) into .layer))
-
-      by : (m : ℕ) → m < 2 → cheapestOf (t .layers .wire) (t .grid .layers) ≤ base (techBy t) v w m
-      by zero few = least
-      by (suc zero) few = least
-      by (suc (suc m)) few = absurd (omega (arith, few))
+  wire-least : (m : ℕ) (d : Direction) → kindOf m ≡ along d → cheapestOf (t .layers .wire) (t .grid .layers) ≤ base (techBy t) v w m
+  unfolding base lineAt
+  wire-least m d step =
+      let held = ap (λ (l : LayerStruct). l .wire) (line-held tech into) in
+      rw (step, base) (omega (arith, held, cheapest-of (t .layers .wire) _ _ (vertex-below (gridOf (t .grid)) into .layer)))
 
   -- a via costs at least the cheapest via: the lower of its layers is not the top one
-  via-least : (m : ℕ) → 2 ≤ m → m < 4 → layerOf (gridOf (t .grid)) w + 1 ≡ layerOf (gridOf (t .grid)) v + 2 * (m % 2)
+  via-least : (m : ℕ) (d : Direction) → kindOf m ≡ viaOn d → OneOn d (layerOf (gridOf (t .grid)) v) (layerOf (gridOf (t .grid)) w)
       → cheapestOf (t .layers .via) (t .grid .layers - 1) ≤ base (techBy t) v w m
-  unfolding base kindOf lineAt
-  via-least zero some few next = absurd (omega (arith, some))
-  via-least (suc zero) some few next = absurd (omega (arith, some))
-  via-least (suc (suc zero)) some few next =
+  unfolding base lineAt viaOn OneOn
+  via-least m low goes next =
       let held = ap (λ (l : LayerStruct). l .via) (line-held tech into) in
       let lowest = cheapest-of (t .layers .via) (t .grid .layers - 1) (layerOf (gridOf (t .grid)) w) in
-      omega (arith, held, lowest (omega (arith, next, vertex-below (gridOf (t .grid)) on .layer)))
-  via-least (suc (suc (suc m))) some few next =
-      let up : m ≡ 0 = omega (arith, few) in
+      rw (goes, base) (omega (arith, held, lowest (omega (arith, next, vertex-below (gridOf (t .grid)) on .layer))))
+  via-least m high goes next =
       let held = ap (λ (l : LayerStruct). l .via) (line-held tech on) in
       let lowest = cheapest-of (t .layers .via) (t .grid .layers - 1) (layerOf (gridOf (t .grid)) v) in
-      omega (arith, held, lowest (omega (arith, up, next, vertex-below (gridOf (t .grid)) into .layer)))
+      rw (goes, base) (omega (arith, held, lowest (omega (arith, next, vertex-below (gridOf (t .grid)) into .layer))))
 
 -- ---- the table
 
@@ -131,23 +120,26 @@ module _ {t : TechStruct} (tech : TechFits t) (spots pins : List ℕ) (count : �
       rw (r, c, layer-axis .done (layerOf g v) (b .layer)) refl
 
   -- no move lowers it by more than 15 times its price
-  told-nearer : {v w m c : ℕ} → v < vertices g → w < vertices g → Changed g m v w → (m < 2 → wire ≤ c)
-      → (2 ≤ m → m < 4 → layerOf g w + 1 ≡ layerOf g v + 2 * (m % 2) → via ≤ c) → boundAt g bounds v ≤ 15 * c + boundAt g bounds w
-  told-nearer {v} {w} {m} {c} on into (column few on-column same-layer same-row next) wires vias =
+  told-nearer : {k : Kind} {v w c : ℕ} → v < vertices g → w < vertices g → Changed g k v w → ((d : Direction) → k ≡ along d → wire ≤ c)
+      → ((d : Direction) → k ≡ viaOn d → OneOn d (layerOf g v) (layerOf g w) → via ≤ c) → boundAt g bounds v ≤ 15 * c + boundAt g bounds w
+  told-nearer {k} {v} {w} {c} on into (column d step on-column same-layer same-row next) wires vias =
       let r = ap (leaves (box .rows) wire) same-row in
       let l = ap (leaves (box .layers) via) same-layer in
+      let (below, above) = one-near d next in
       let less = leaves-next (box .columns) wire (columnOf g v) (columnOf g w) (omega arith) (omega arith) in
-      omega (arith, bound-told v on, bound-told w into, r, l, less, wires few)
-  told-nearer {v} {w} {m} {c} on into (row few on-row same-layer same-column next) wires vias =
-      let k = ap (leaves (box .columns) wire) same-column in
+      omega (arith, bound-told v on, bound-told w into, r, l, less, wires d step)
+  told-nearer {k} {v} {w} {c} on into (row d step on-row same-layer same-column next) wires vias =
+      let q = ap (leaves (box .columns) wire) same-column in
       let l = ap (leaves (box .layers) via) same-layer in
+      let (below, above) = one-near d next in
       let less = leaves-next (box .rows) wire (rowOf g v) (rowOf g w) (omega arith) (omega arith) in
-      omega (arith, bound-told v on, bound-told w into, k, l, less, wires few)
-  told-nearer {v} {w} {m} {c} on into (layer some few same-row same-column next) wires vias =
+      omega (arith, bound-told v on, bound-told w into, q, l, less, wires d step)
+  told-nearer {k} {v} {w} {c} on into (layer d goes same-row same-column next) wires vias =
       let r = ap (leaves (box .rows) wire) same-row in
-      let k = ap (leaves (box .columns) wire) same-column in
+      let q = ap (leaves (box .columns) wire) same-column in
+      let (below, above) = one-near d next in
       let less = leaves-next (box .layers) via (layerOf g v) (layerOf g w) (omega arith) (omega arith) in
-      omega (arith, bound-told v on, bound-told w into, r, k, less, vias some few next)
+      omega (arith, bound-told v on, bound-told w into, r, q, less, vias d goes next)
 
   -- it is small, as the one before was
   pub filled-small : SmallBounds found → SmallBounds (filled t spots pins count found)
@@ -178,8 +170,8 @@ module _ {t : TechStruct} (tech : TechFits t) (spots pins : List ℕ) (count : �
           let into = entered-below g m (good .vertex) (went .enters) in
           rw (led .vertex)
           (told-nearer (good .vertex) into (changed g m (good .vertex) (went .enters))
-          (λ few. omega (arith, wire-least tech (good .vertex) into m few, least, led .cost))
-          (λ some few next. omega (arith, via-least tech (good .vertex) into m some few next, least, led .cost)))
+          (λ d step. omega (arith, wire-least tech (good .vertex) into m d step, least, led .cost))
+          (λ d goes next. omega (arith, via-least tech (good .vertex) into m d goes next, least, led .cost)))
 
   -- what the code leaves, step by step, is that table
   pub bounds-made : Among g spots pins count → SmallBounds found → {around : Box} {wires vias : ℕ} {first second made : List ℕ}

@@ -1,10 +1,10 @@
 -- A vertex and a move by coordinates.
 --     vertex-fields                            the coordinates of a vertex lie in their fields' ranges
---     Changed, changed                         a move changes one coordinate by one
---     bound-along, bound-across, bound-via     the bound of the vertex entered, by the coordinates of the one
+--     OneOn, Changed, changed                  a move changes one coordinate by one, by its kind
+--     bound-column, bound-row, bound-via       the bound of the vertex entered, by the coordinates of the one
 --                                              left
 --     small-sum, bare-small                    what is left is small, and in an array of zeros
-use Prim.Native.Nat.{ℕ, zero, suc, _+_, _-_, _*_, _%_, _^_, _≤_, _<_}
+use Prim.Native.Nat.{ℕ, zero, suc, _+_, _-_, _^_, _≤_, _<_}
 use mathlib.Core.Path.{_≡_, refl, sym, ap, _∙_}
 use mathlib.Core.List.{List}
 use mathlib.Core.Bool.{Bool, true, false}
@@ -18,7 +18,8 @@ use Rattle.job.specs.declared.grid.Vertex.{Vertex as VertexStruct}
 use Rattle.job.proofs.Grids.{below-inside}
 use Rattle.job.proofs.Sizes.{inside-fields}
 use Rattle.rules.specs.Tracks.{layerOf, rowOf, columnOf, vertexBy, outside, at, entered}
-use Rattle.rules.specs.Structs.{OnGrid}
+use Rattle.rules.specs.Segments.{Direction, low, high, Kind, along, down, up, kindOf}
+use Rattle.rules.specs.Structs.{OnGrid, nextOn}
 use Rattle.rules.proofs.Vertices.{vertex-below}
 use Rattle.rules.proofs.Neighbours.{OneHigh, low-enters, high-enters, high-vertex, down-enters, up-enters}
 use Rattle.rules.proofs.Members.{not-both}
@@ -30,14 +31,42 @@ vertex-fields g v on = inside-fields g _ (on .small) (below-inside (gridOf g) _ 
 
 -- ---- a move
 
--- one coordinate changes: it is one lower after an even move, one higher after an odd one
-pub data Changed (g : Grid) (m v w : ℕ) : Type 0 where
-  column : m < 2 → stepsColumn g (layerOf g v) ≡ true → layerOf g w ≡ layerOf g v → rowOf g w ≡ rowOf g v
-      → columnOf g w + 1 ≡ columnOf g v + 2 * (m % 2) → Changed g m v w
-  row : m < 2 → stepsColumn g (layerOf g v) ≡ false → layerOf g w ≡ layerOf g v → columnOf g w ≡ columnOf g v
-      → rowOf g w + 1 ≡ rowOf g v + 2 * (m % 2) → Changed g m v w
-  layer : 2 ≤ m → m < 4 → rowOf g w ≡ rowOf g v → columnOf g w ≡ columnOf g v → layerOf g w + 1 ≡ layerOf g v + 2 * (m % 2)
-      → Changed g m v w
+-- one number is the next of another in a direction
+unfoldable pub OneOn : Direction → (x y : ℕ) → Type 0
+OneOn low x y = suc y ≡ x
+OneOn high x y = y ≡ suc x
+
+-- a via goes down or up
+unfoldable pub viaOn : Direction → Kind
+viaOn low = down
+viaOn high = up
+
+-- by their difference
+pub one-near : (d : Direction) {x y : ℕ} → OneOn d x y → (x ≤ y + 1) × (y ≤ x + 1)
+unfolding OneOn
+one-near low o = (omega (arith, o), omega (arith, o))
+one-near high o = (omega (arith, o), omega (arith, o))
+
+-- so are the positions of their entries
+one-next : (d : Direction) (from x y : ℕ) → OneOn d x y → nextOn 1 d (from + x) ≡ from + y
+unfolding OneOn nextOn
+one-next low from x y o = omega (arith, o)
+one-next high from x y o = omega (arith, o)
+
+-- a position is at most one further
+pub next-few : (d : Direction) (x : ℕ) {y n : ℕ} → y ≡ nextOn 1 d x → x + 1 < n → y < n
+unfolding nextOn
+next-few low x is few = omega (arith, is, few)
+next-few high x is few = omega (arith, is, few)
+
+-- a move of a kind changes one coordinate to the next in a direction
+pub data Changed (g : Grid) (k : Kind) (v w : ℕ) : Type 0 where
+  column : (d : Direction) → k ≡ along d → stepsColumn g (layerOf g v) ≡ true → layerOf g w ≡ layerOf g v → rowOf g w ≡ rowOf g v
+      → OneOn d (columnOf g v) (columnOf g w) → Changed g k v w
+  row : (d : Direction) → k ≡ along d → stepsColumn g (layerOf g v) ≡ false → layerOf g w ≡ layerOf g v → columnOf g w ≡ columnOf g v
+      → OneOn d (rowOf g v) (rowOf g w) → Changed g k v w
+  layer : (d : Direction) → k ≡ viaOn d → rowOf g w ≡ rowOf g v → columnOf g w ≡ columnOf g v → OneOn d (layerOf g v) (layerOf g w)
+      → Changed g k v w
 
 module _ (g : Grid) {v w : ℕ} (o : OneHigh g v w) where
   -- the next vertex high lies in the next column
@@ -51,36 +80,34 @@ module _ (g : Grid) {v w : ℕ} (o : OneHigh g v w) where
   row-next e = let x = rw e at (high-vertex g o) in (ap (λ (z : Vertex). z .row) x, ap (λ (z : Vertex). z .column) x)
 
 -- a step high
-high-changed : (g : Grid) {v w : ℕ} → OneHigh g v w → Changed g 1 v w
+high-changed : (g : Grid) {v w : ℕ} → OneHigh g v w → Changed g (along high) v w
+unfolding OneOn
 high-changed g {v} {w} o = by (stepsColumn g (layerOf g v)) refl
   where
-    by : (b : Bool) → stepsColumn g (layerOf g v) ≡ b → Changed g 1 v w
-    by true e = let (same, next) = column-next g o e in column (omega arith) e (o .layer) same (omega arith)
-    by false e = let (next, same) = row-next g o e in row (omega arith) e (o .layer) same (omega arith)
+    by : (b : Bool) → stepsColumn g (layerOf g v) ≡ b → Changed g (along high) v w
+    by true e = let (same, next) = column-next g o e in column high refl e (o .layer) same next
+    by false e = let (next, same) = row-next g o e in row high refl e (o .layer) same next
 
 -- a step low
-low-changed : (g : Grid) {v w : ℕ} → OneHigh g w v → Changed g 0 v w
+low-changed : (g : Grid) {v w : ℕ} → OneHigh g w v → Changed g (along low) v w
+unfolding OneOn
 low-changed g {v} {w} o = by (stepsColumn g (layerOf g v)) refl
   where
-    by : (b : Bool) → stepsColumn g (layerOf g v) ≡ b → Changed g 0 v w
+    by : (b : Bool) → stepsColumn g (layerOf g v) ≡ b → Changed g (along low) v w
     by true e =
         let (same, next) = column-next g o (ap (stepsColumn g) (sym (o .layer)) ∙ e) in
-        column (omega arith) e (sym (o .layer)) (sym same) (omega arith)
+        column low refl e (sym (o .layer)) (sym same) (sym next)
     by false e =
         let (next, same) = row-next g o (ap (stepsColumn g) (sym (o .layer)) ∙ e) in
-        row (omega arith) e (sym (o .layer)) (sym same) (omega arith)
+        row low refl e (sym (o .layer)) (sym same) (sym next)
 
 -- any move
-pub changed : (g : Grid) (m : ℕ) {v w : ℕ} → v < vertices g → entered g v m ≡ at w → Changed g m v w
-unfolding entered
+pub changed : (g : Grid) (m : ℕ) {v w : ℕ} → v < vertices g → entered g v m ≡ at w → Changed g (kindOf m) v w
+unfolding entered kindOf viaOn OneOn
 changed g zero on e = low-changed g (low-enters g on e)
 changed g (suc zero) on e = high-changed g (high-enters g on e)
-changed g (suc (suc zero)) on e =
-    let o = down-enters g on e in
-    layer (omega arith) (omega arith) (sym (o .row)) (sym (o .column)) (omega (arith, o .layer))
-changed g (suc (suc (suc zero))) on e =
-    let o = up-enters g on e in
-    layer (omega arith) (omega arith) (o .row) (o .column) (omega (arith, o .layer))
+changed g (suc (suc zero)) on e = let o = down-enters g on e in layer low refl (sym (o .row)) (sym (o .column)) (sym (o .layer))
+changed g (suc (suc (suc zero))) on e = let o = up-enters g on e in layer high refl (o .row) (o .column) (o .layer)
 changed g (suc (suc (suc (suc m)))) {v} {w} on e = absurd (nowhere e)
   where
     nowhere : outside ≡ at w → ⊥
@@ -88,8 +115,24 @@ changed g (suc (suc (suc (suc m)))) {v} {w} on e = absurd (nowhere e)
 
 -- ---- the bound of the vertex entered
 
-module _ (g : Grid) (bounds : List ℕ) (m : ℕ) {v w : ℕ} {from : VertexStruct} (on : v < vertices g) (is : from ≡ vertexStruct (vertexBy g v))
-    (e : entered g v m ≡ at w) where
+-- a step is no via
+step-no-via : (d e : Direction) {k : Kind} → k ≡ along d → k ≡ viaOn e → ⊥
+unfolding viaOn
+step-no-via d low step via = let z : _≡_ {A = ℕ} 0 1 = cc in omega arith
+step-no-via d high step via = let z : _≡_ {A = ℕ} 0 1 = cc in omega arith
+
+-- a step goes in one direction, and so does a via
+step-once : {d e : Direction} {k : Kind} → k ≡ along d → k ≡ along e → d ≡ e
+step-once one other = cc
+
+via-once : (d e : Direction) {k : Kind} → k ≡ viaOn d → k ≡ viaOn e → d ≡ e
+unfolding viaOn
+via-once low low one other = refl
+via-once low high one other = let z : _≡_ {A = ℕ} 0 1 = cc in absurd (omega arith)
+via-once high low one other = let z : _≡_ {A = ℕ} 0 1 = cc in absurd (omega arith)
+via-once high high one other = refl
+
+module _ (g : Grid) (bounds : List ℕ) (k : Kind) (v w : ℕ) {from : VertexStruct} (is : from ≡ vertexStruct (vertexBy g v)) where
   -- by its entries
   bound-by : {i j k : ℕ} → i ≡ 1 + rowOf g w → j ≡ 258 + columnOf g w → k ≡ 516 + layerOf g w
       → getD bounds i 0 + (getD bounds j 0 + getD bounds k 0) ≡ boundAt g bounds w
@@ -106,40 +149,30 @@ module _ (g : Grid) (bounds : List ℕ) (m : ℕ) {v w : ℕ} {from : VertexStru
   isLayer = ap (λ (x : VertexStruct). x .layer) is
 
   -- a step that changes the column
-  pub bound-along : m < 2 → stepsColumn g (from .layer) ≡ true
-      → getD bounds (1 + from .row) 0 + (getD bounds (258 + from .column - 1 + 2 * (m % 2)) 0 + getD bounds (516 + from .layer) 0) ≡ boundAt g bounds w
-  bound-along few steps = by (changed g m on e)
-    where
-      by : Changed g m v w
-          → getD bounds (1 + from .row) 0 + (getD bounds (258 + from .column - 1 + 2 * (m % 2)) 0 + getD bounds (516 + from .layer) 0) ≡ boundAt g bounds w
-      by (column less on-column same-layer same-row next) =
-          bound-by (omega (arith, isRow, same-row)) (omega (arith, isColumn, next)) (omega (arith, isLayer, same-layer))
-      by (row less on-row same-layer same-column next) = absurd (not-both (ap (stepsColumn g) (sym isLayer) ∙ steps) on-row)
-      by (layer more less same-row same-column next) = absurd (omega arith)
+  pub bound-column : (d : Direction) → k ≡ along d → stepsColumn g (from .layer) ≡ true → Changed g k v w
+      → getD bounds (1 + from .row) 0 + (getD bounds (nextOn 1 d (258 + from .column)) 0 + getD bounds (516 + from .layer) 0) ≡ boundAt g bounds w
+  bound-column d step steps (column e same-step on-column same-layer same-row next) =
+      bound-by (omega (arith, isRow, same-row)) (rw (isColumn, step-once step same-step) (one-next e 258 _ _ next)) (omega (arith, isLayer, same-layer))
+  bound-column d step steps (row e same-step on-row same-layer same-column next) =
+      absurd (not-both (ap (stepsColumn g) (sym isLayer) ∙ steps) on-row)
+  bound-column d step steps (layer e via same-row same-column next) = absurd (step-no-via d e step via)
 
   -- the row
-  pub bound-across : m < 2 → stepsColumn g (from .layer) ≡ false
-      → getD bounds (1 + from .row - 1 + 2 * (m % 2)) 0 + (getD bounds (258 + from .column) 0 + getD bounds (516 + from .layer) 0) ≡ boundAt g bounds w
-  bound-across few steps = by (changed g m on e)
-    where
-      by : Changed g m v w
-          → getD bounds (1 + from .row - 1 + 2 * (m % 2)) 0 + (getD bounds (258 + from .column) 0 + getD bounds (516 + from .layer) 0) ≡ boundAt g bounds w
-      by (row less on-row same-layer same-column next) =
-          bound-by (omega (arith, isRow, next)) (omega (arith, isColumn, same-column)) (omega (arith, isLayer, same-layer))
-      by (column less on-column same-layer same-row next) = absurd (not-both on-column (ap (stepsColumn g) (sym isLayer) ∙ steps))
-      by (layer more less same-row same-column next) = absurd (omega arith)
+  pub bound-row : (d : Direction) → k ≡ along d → stepsColumn g (from .layer) ≡ false → Changed g k v w
+      → getD bounds (nextOn 1 d (1 + from .row)) 0 + (getD bounds (258 + from .column) 0 + getD bounds (516 + from .layer) 0) ≡ boundAt g bounds w
+  bound-row d step steps (row e same-step on-row same-layer same-column next) =
+      bound-by (rw (isRow, step-once step same-step) (one-next e 1 _ _ next)) (omega (arith, isColumn, same-column)) (omega (arith, isLayer, same-layer))
+  bound-row d step steps (column e same-step on-column same-layer same-row next) =
+      absurd (not-both on-column (ap (stepsColumn g) (sym isLayer) ∙ steps))
+  bound-row d step steps (layer e via same-row same-column next) = absurd (step-no-via d e step via)
 
   -- a via
-  pub bound-via : 2 ≤ m
-      → getD bounds (1 + from .row) 0 + (getD bounds (258 + from .column) 0 + getD bounds (516 + from .layer - 1 + 2 * (m % 2)) 0) ≡ boundAt g bounds w
-  bound-via more = by (changed g m on e)
-    where
-      by : Changed g m v w
-          → getD bounds (1 + from .row) 0 + (getD bounds (258 + from .column) 0 + getD bounds (516 + from .layer - 1 + 2 * (m % 2)) 0) ≡ boundAt g bounds w
-      by (column less on-column same-layer same-row next) = absurd (omega arith)
-      by (row less on-row same-layer same-column next) = absurd (omega arith)
-      by (layer some less same-row same-column next) =
-          bound-by (omega (arith, isRow, same-row)) (omega (arith, isColumn, same-column)) (omega (arith, isLayer, next))
+  pub bound-via : (d : Direction) → k ≡ viaOn d → Changed g k v w
+      → getD bounds (1 + from .row) 0 + (getD bounds (258 + from .column) 0 + getD bounds (nextOn 1 d (516 + from .layer)) 0) ≡ boundAt g bounds w
+  bound-via d via (layer e same-via same-row same-column next) =
+      bound-by (omega (arith, isRow, same-row)) (omega (arith, isColumn, same-column)) (rw (isLayer, via-once d e via same-via) (one-next e 516 _ _ next))
+  bound-via d via (column e step on-column same-layer same-row next) = absurd (step-no-via e d step via)
+  bound-via d via (row e step on-row same-layer same-column next) = absurd (step-no-via e d step via)
 
 -- what is left is small
 pub small-sum : (g : Grid) (bounds : List ℕ) → SmallBounds bounds → (v : ℕ) → boundAt g bounds v ≤ 2 ^ 24

@@ -6,10 +6,15 @@ ghost use lib.ListN.{getD};
 ghost use Rattle.job.specs.Grid.{vertices};
 ghost use Rattle.job.specs.Structs.{Small, InFields, gridOf, vertexOf, vertexStruct};
 ghost use Rattle.rules.specs.Tracks.{vertexBy, at, entered};
-ghost use Rattle.rules.specs.Structs.{OnGrid};
+ghost use Rattle.rules.specs.Segments.{along, kindOf};
+ghost use Rattle.rules.specs.Structs.{OnGrid, directionOf};
 ghost use Rattle.bounds.specs.Bounds.{boundOf, boundAt, SmallBounds};
 use job::grid::Grid;
 use job::grid::Vertex;
+use rules::segment::Direction;
+use rules::track::Kind;
+use rules::track::kind_of;
+use rules::track::next_toward;
 use rules::track::vertex_by;
 
 // What a row, a column and a layer leave, by the places of their entries.
@@ -36,8 +41,23 @@ pub fn bound_at(bounds: &[u64; 528], grid: Grid, v: usize) -> u64
     bound_of(bounds, vertex_by(grid, v))
 }
 
-// The bound of the vertex that a move enters, if it enters one: low and down take one off a coordinate, high
-// and up add one.
+// The bound of the next vertex on the track in a direction, if there is one.
+fn bound_along(bounds: &[u64; 528], grid: Grid, from: Vertex, toward: Direction) -> u64
+    requires { ⌜ (SmallBounds (now bounds)) × (Small grid) × (InFields from) ⌝ }
+    ensures { λ r. ⌜ ((v w m : ℕ) → v < vertices (gridOf grid) → from ≡ vertexStruct (vertexBy (gridOf grid) v)
+        → kindOf m ≡ along (directionOf toward) → entered (gridOf grid) v m ≡ at w → r ≡ boundAt (gridOf grid) (now (bounds .entry)) w) ⌝ }
+{
+    let row = 1 + from.row;
+    let column = 258 + from.column;
+    let layer = 516 + from.layer;
+    if grid.steps_column(from.layer) {
+        sum_at(bounds, row, next_toward(1, toward, column), layer)
+    } else {
+        sum_at(bounds, next_toward(1, toward, row), column, layer)
+    }
+}
+
+// The bound of the vertex that a move enters, if it enters one: one coordinate changes by one.
 pub fn bound_entered(bounds: &[u64; 528], grid: Grid, from: Vertex, number: usize) -> u64
     requires { ⌜ (SmallBounds (now bounds)) × (Small grid) × (InFields from) ⌝ }
     ensures { λ r. ⌜ ((v w : ℕ) → v < vertices (gridOf grid) → from ≡ vertexStruct (vertexBy (gridOf grid) v)
@@ -46,13 +66,10 @@ pub fn bound_entered(bounds: &[u64; 528], grid: Grid, from: Vertex, number: usiz
     let row = 1 + from.row;
     let column = 258 + from.column;
     let layer = 516 + from.layer;
-    let high = 2 * (number % 2);
-    if 2 <= number {
-        return sum_at(bounds, row, column, layer - 1 + high);
-    }
-    if grid.steps_column(from.layer) {
-        sum_at(bounds, row, column - 1 + high, layer)
-    } else {
-        sum_at(bounds, row - 1 + high, column, layer)
+    let kind = kind_of(number);
+    match kind {
+        Kind::Along(toward) => bound_along(bounds, grid, from, toward),
+        Kind::Down => sum_at(bounds, row, column, layer - 1),
+        Kind::Up => sum_at(bounds, row, column, layer + 1),
     }
 }

@@ -1,29 +1,51 @@
 -- A move's price and the place that it leads to, by the vertex that it enters.
+--     via-told, via-leaves       a via, and that it leaves the segment
 --     step-entry                 a move is what its entry and its kind say
 --     priced-shut                one that may enter nothing
 --     priced-back, priced-along  a step along the track
 --     priced-via                 a via, with what it owes
 --     owed-told                  what it owes, from the code's form
 --     entry-parts                an entry taken apart
-use Prim.Native.Nat.{ℕ, zero, suc, _+_}
+use Prim.Native.Nat.{ℕ, _+_}
 use mathlib.Core.Path.{_≡_, refl, sym, ap, _∙_}
 use mathlib.Core.Bool.{Bool, true, false}
+use mathlib.Core.Logic.{_⊎_, inl, inr}
 use native.Mathlib.Omega.{arith}
+use denote.Enum.Declared.{tagOf}
 use Rattle.job.specs.Structs.{layerStruct}
 use Rattle.job.specs.declared.groups.Layer.{Layer as LayerStruct}
 use Rattle.paths.specs.Systems.{blocked, to}
 use Rattle.paths.specs.Distances.{Cost, fin, inf}
 use Rattle.rules.specs.Tracks.{Entered, outside, at, entered}
 use Rattle.rules.specs.Views.{View}
-use Rattle.rules.specs.Segments.{Direction, along, kindOf, Segment, Place, back, grown, grow}
+use Rattle.rules.specs.Segments.{Direction, Kind, along, down, up, kindOf, Segment, Place, back, grown, grow}
 use Rattle.rules.specs.Prices.{Tech, lineOf, entering}
 use Rattle.rules.specs.Overheads.{Overhead, nothing, lengthened, penalised, forbidden, overheadOf}
 use Rattle.rules.specs.Steps.{Stepped, illegal, leaving, stepping, bySegment, ifPriced, into, step, priced}
-use Rattle.rules.specs.Structs.{overheadBy, IsOverhead, overheadCost, leavingCost, owedCost, byOwed, entryBy, entryAt, entryOf}
+use Rattle.rules.specs.Structs.{kindBy, Via, overheadBy, IsOverhead, overheadCost, leavingCost, owedCost, byOwed, entryBy, entryAt, entryOf}
 use Rattle.rules.specs.declared.overhead.Overhead.{Overhead as OverheadEnum}
 use Rattle.rules.specs.declared.overhead.Overhead.the-variants.{Nothing, Lengthened, Penalised, Forbidden}
+use Rattle.rules.specs.declared.track.Kind.{Kind as KindEnum}
+use Rattle.rules.specs.declared.track.Kind.the-variants.{Along, Down, Up}
+use Rattle.rules.proofs.track.Kind.{the-type}
 use Rattle.rules.specs.declared.step.Entry.{Entry}
 use Rattle.rules.specs.declared.step.Entry.the-variants.{Shut, Open}
+
+-- a move that does not go along the track is a via
+pub via-told : (k : KindEnum) → (tagOf the-type k ≡ 1) ⊎ (tagOf the-type k ≡ 2) → Via (kindBy k)
+unfolding Via kindBy
+via-told (Along d) (inl e) = let z : _≡_ {A = ℕ} 0 1 = e in omega (arith, z)
+via-told (Along d) (inr e) = let z : _≡_ {A = ℕ} 0 2 = e in omega (arith, z)
+via-told Down e = Prim.tt
+via-told Up e = Prim.tt
+
+-- a via leaves the segment
+pub via-leaves : (t : Tech) (view : View) (p : Place) (k : Kind) (w enter : ℕ) → Via k
+    → bySegment t view p k w enter ≡ leaving t (p .vertex) w enter (overheadOf t view (p .vertex) (p .segment))
+unfolding Via bySegment
+via-leaves t view p (along d) w enter none = absurd none
+via-leaves t view p down w enter via = refl
+via-leaves t view p up w enter via = refl
 
 module _ (t : Tech) (view : View) (p : Place) (m : ℕ) where
   -- what may be entered, then what the kind asks of the segment
@@ -81,16 +103,8 @@ module _ (t : Tech) (view : View) (p : Place) (m : ℕ) where
         by penalised = refl
         by forbidden = refl
 
-    pub priced-via : (m ≡ 0 → ⊥) → (m ≡ 1 → ⊥) → byOwed w enter (owedCost t view p) ≡ priced (step t view p m)
-    unfolding bySegment kindOf
-    priced-via n0 n1 = priced-leaving (by m n0 n1)
-      where
-        by : (m : ℕ) → (m ≡ 0 → ⊥) → (m ≡ 1 → ⊥)
-            → bySegment t view p (kindOf m) w enter ≡ leaving t (p .vertex) w enter (overheadOf t view (p .vertex) (p .segment))
-        by zero n0 n1 = absurd (n0 refl)
-        by (suc zero) n0 n1 = absurd (n1 refl)
-        by (suc (suc zero)) n0 n1 = refl
-        by (suc (suc (suc k))) n0 n1 = refl
+    pub priced-via : Via (kindOf m) → byOwed w enter (owedCost t view p) ≡ priced (step t view p m)
+    priced-via via = priced-leaving (via-leaves t view p (kindOf m) w enter via)
 
 -- what a via owes, from the code's form
 pub owed-told : (t : Tech) (view : View) (v : ℕ) {line : LayerStruct} (r : OverheadEnum) {o : Overhead} → line ≡ layerStruct (lineOf t v)

@@ -87,6 +87,12 @@ kindBy (Along d) = along (directionOf d)
 kindBy Down = down
 kindBy Up = up
 
+-- a move to another layer
+unfoldable pub Via : Kind → Type 0
+Via (along d) = ⊥
+Via down = Unit
+Via up = Unit
+
 unfoldable pub segmentOf : SegmentEnum → Segment
 segmentOf Fresh = fresh
 segmentOf (Running d n) = running (directionOf d) n

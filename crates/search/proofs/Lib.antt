@@ -7,6 +7,7 @@
 --     Costing      the cost that an entry tells, and what is left at least
 --     Bits         bytes with a bit for each move
 --     Asking       what the code asks of a place and of a move
+--     Vias         what it asks for a via from a settled place
 --     Spreading    what the entries have come to, move by move
 --     Easing       entries lowered to a key or a cost
 --     Relaxing     a move to another place
@@ -29,6 +30,7 @@ pub mod Putting
 pub mod Costing
 pub mod Bits
 pub mod Asking
+pub mod Vias
 pub mod Spreading
 pub mod Easing
 pub mod Relaxing

@@ -17,12 +17,12 @@ use Rattle.paths.specs.Systems.{Step, blocked, to}
 use Rattle.paths.specs.Distances.{Cost, fin, inf}
 use Rattle.paths.proofs.Steps.{not-blocked, one-price, one-next}
 use Rattle.rules.specs.Views.{View}
-use Rattle.rules.specs.Segments.{Place}
+use Rattle.rules.specs.Segments.{kindOf, Place}
 use Rattle.rules.specs.Prices.{Tech}
 use Rattle.rules.specs.Steps.{step, priced}
 use Rattle.rules.specs.Joins.{places}
 use Rattle.rules.specs.Places.{placeCode, GoodPlace, GoodTech}
-use Rattle.rules.specs.Structs.{owedCost, byOwed, entryOf, placeOf}
+use Rattle.rules.specs.Structs.{Via, owedCost, byOwed, entryOf, placeOf}
 use Rattle.rules.specs.declared.step.Place.{Place as PlaceStruct}
 use Rattle.rules.specs.declared.step.Entry.the-variants.{Open}
 use Rattle.rules.proofs.Places.{code-below}
@@ -44,11 +44,11 @@ more-passed up passed = record { touched = passed .touched; within = omega (arit
 
 module _ {t : Tech} (view : View) {bounds work : List ℕ} (p : Place) {distance : ℕ} (number : ℕ) where
   -- a via that is passed over lowers no key, whatever it owes
-  pub via-passed : {w enter : ℕ} → entryOf t view (p .vertex) number ≡ Open w enter → 2 ≤ number → Passed t bounds work distance enter (freshCode t w)
+  pub via-passed : {w enter : ℕ} → entryOf t view (p .vertex) number ≡ Open w enter → Via (kindOf number) → Passed t bounds work distance enter (freshCode t w)
       → (c : ℕ) (q : Place) → priced (step t view p number) ≡ to c q → Passed t bounds work distance c (placeCode t q)
   unfolding freshCode byOwed
   via-passed {w} {enter} opens via passed c q leads =
-      by (owedCost t view p) (priced-via t view p number opens (λ e. omega (arith, e, via)) (λ e. omega (arith, e, via)) ∙ leads)
+      by (owedCost t view p) (priced-via t view p number opens via ∙ leads)
     where
       by : (x : Cost) → byOwed w enter x ≡ to c q → Passed t bounds work distance c (placeCode t q)
       by inf is = absurd (not-blocked is)

@@ -10,7 +10,7 @@ ghost use Rattle.rules.specs.Steps.{step, priced};
 ghost use Rattle.rules.specs.Joins.{places};
 ghost use Rattle.rules.specs.PriceLists.{Priced};
 ghost use Rattle.rules.specs.Prices.{charge};
-ghost use Rattle.rules.specs.Structs.{directionOf, techBy, seenBy, owedCost, byOwed, placeOf};
+ghost use Rattle.rules.specs.Structs.{directionOf, Via, techBy, seenBy, owedCost, byOwed, placeOf};
 ghost use Rattle.bounds.specs.Bounds.{SmallBounds};
 ghost use Rattle.search.specs.Tries.{AtPlace, triedOf, OwedFor, freshCode, Passed, Attempted};
 use crate::places::code_of;
@@ -29,6 +29,8 @@ use rules::segment::grow;
 use rules::step::Entry;
 use rules::step::Place;
 use rules::step::entry_of;
+use rules::track::Kind;
+use rules::track::kind_of;
 
 // What a via owes does not depend on the via: it is asked once for a settled place, and held as the field of
 // a penalty. No field is this number, which stands before it is asked.
@@ -174,7 +176,7 @@ fn try_via(
     owed: usize,
 ) -> Attempt
     requires { ⌜ (AtPlace tech settled) × (Priced (techBy tech) (now prices)) × (SmallBounds (now bounds)) × (places (techBy tech) ≤ length (now work))
-        × (OwedFor (techBy tech) (seenBy tech (now seen)) (placeOf (settled .place)) owed) × (2 ≤ number) ⌝ }
+        × (OwedFor (techBy tech) (seenBy tech (now seen)) (placeOf (settled .place)) owed) × (Via (kindOf number)) ⌝ }
     ensures { λ r. ⌜ Attempted (techBy tech) (seenBy tech (now (seen .entry))) (now (bounds .entry)) (now (work .entry)) (placeOf (settled .place)) (settled .distance) number r ⌝ }
 {
     let place = settled.place;
@@ -195,7 +197,7 @@ fn try_via(
     to_fresh(into, price, ask_owed(tech, prices, seen, settled, owed))
 }
 
-// The move's number tells a step low or high from a via.
+// The move's kind tells a step from a via.
 pub fn try_move(
     tech: Tech,
     prices: &[usize; 48],
@@ -210,9 +212,8 @@ pub fn try_move(
         × (OwedFor (techBy tech) (seenBy tech (now seen)) (placeOf (settled .place)) owed) ⌝ }
     ensures { λ r. ⌜ Attempted (techBy tech) (seenBy tech (now (seen .entry))) (now (bounds .entry)) (now (work .entry)) (placeOf (settled .place)) (settled .distance) number r ⌝ }
 {
-    match number {
-        0 => try_along(tech, prices, seen, settled, 0, Direction::Low, owed),
-        1 => try_along(tech, prices, seen, settled, 1, Direction::High, owed),
-        _ => try_via(tech, prices, seen, bounds, work, settled, number, owed),
-    }
+    let Kind::Along(toward) = kind_of(number) else {
+        return try_via(tech, prices, seen, bounds, work, settled, number, owed);
+    };
+    try_along(tech, prices, seen, settled, number, toward, owed)
 }

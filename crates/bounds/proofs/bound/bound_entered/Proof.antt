@@ -1,8 +1,9 @@
--- `bounds::bound::bound_entered` meets its contract: each way out by its law.
-use mathlib.Core.Path.{sym, _∙_}
-use native.Mathlib.Omega.{arith}
+-- `bounds::bound::bound_entered` meets its contract: each kind of move by its law.
+use mathlib.Core.Path.{sym, ap, _∙_}
 use borrow.Author.Needs.{needs}
-use Rattle.bounds.proofs.Coordinates.{bound-along, bound-across, bound-via}
+use Rattle.rules.specs.Segments.{low, high}
+use Rattle.rules.specs.Structs.{kindBy, nextOn}
+use Rattle.bounds.proofs.Coordinates.{viaOn, changed, bound-via}
 use Rattle.bounds.proofs.bound.bound_entered.Statement.{statement}
 use Rattle.bounds.proofs.bound.bound_entered.Tie as tie
 
@@ -15,49 +16,50 @@ add-column c = search needs
 add-layer : tie.Need-add-layer
 add-layer c = search needs
 
-mul-high : tie.Need-mul-high
-mul-high c = search needs
+kind-of-requires : tie.Need-kind-of-requires
+kind-of-requires c κs = search needs
+
+enum-known-kind : tie.Need-enum-known-kind
+enum-known-kind c = search needs
+
+bound-along-requires : tie.Need-bound-along-requires
+bound-along-requires c κs = search needs
+
+enum-told : tie.Need-enum-told
+enum-told c = search needs
 
 sub-sum-at : tie.Need-sub-sum-at
 sub-sum-at c = search needs
 
-add-sum-at : tie.Need-add-sum-at
-add-sum-at c = search needs
-
 sum-at-requires : tie.Need-sum-at-requires
 sum-at-requires c κs = search needs
 
-returns : tie.Need-returns
-returns c v w on is e = c .sum-at .ensures ∙ bound-via _ _ _ on is e (c .before .if1 .taken)
+enum-told-2 : tie.Need-enum-told-2
+enum-told-2 c = search needs
 
-steps-column-requires : tie.Need-steps-column-requires
-steps-column-requires c κs = search needs
-
-sub-sum-at-2 : tie.Need-sub-sum-at-2
-sub-sum-at-2 c = search needs
-
-add-sum-at-2 : tie.Need-add-sum-at-2
-add-sum-at-2 c = search needs
+add-sum-at : tie.Need-add-sum-at
+add-sum-at c = search needs
 
 sum-at-requires-2 : tie.Need-sum-at-requires-2
 sum-at-requires-2 c κs = search needs
 
-sub-sum-at-3 : tie.Need-sub-sum-at-3
-sub-sum-at-3 c = search needs
-
-add-sum-at-3 : tie.Need-add-sum-at-3
-add-sum-at-3 c = search needs
-
-sum-at-requires-3 : tie.Need-sum-at-requires-3
-sum-at-requires-3 c κs = search needs
+returns : tie.Need-returns
+unfolding kindBy
+returns c v w on is e =
+    let step = sym (c .before .before .before .before .kind-of .ensures) ∙ ap kindBy (c .before .before .kind .given .1) in
+    c .bound-along .ensures v w _ on is step e
 
 returns-2 : tie.Need-returns-2
+unfolding kindBy viaOn nextOn
 returns-2 c v w on is e =
-    c .sum-at2 .ensures ∙ bound-along _ _ _ on is e (omega (arith, c .before .before .before .if1 .left)) (sym (c .before .before .steps-column .ensures) ∙ c .before .if2 .taken)
+    let goes = sym (c .before .before .before .kind-of .ensures) ∙ ap kindBy (c .before .enum-told .given .1) in
+    c .sum-at .ensures ∙ bound-via _ _ _ v w is low goes (changed _ _ on e)
 
 returns-3 : tie.Need-returns-3
+unfolding kindBy viaOn nextOn
 returns-3 c v w on is e =
-    c .sum-at3 .ensures ∙ bound-across _ _ _ on is e (omega (arith, c .before .before .before .if1 .left)) (sym (c .before .before .steps-column .ensures) ∙ c .before .if2 .left)
+    let goes = sym (c .before .before .before .kind-of .ensures) ∙ ap kindBy (c .before .enum-told2 .given .1) in
+    c .sum-at2 .ensures ∙ bound-via _ _ _ v w is high goes (changed _ _ on e)
 
 pub bound-entered-spec : {M : Type 1} → statement M
 bound-entered-spec =
@@ -66,17 +68,15 @@ bound-entered-spec =
     add-row
     add-column
     add-layer
-    mul-high
+    kind-of-requires
+    enum-known-kind
+    bound-along-requires
+    enum-told
     sub-sum-at
-    add-sum-at
     sum-at-requires
-    returns
-    steps-column-requires
-    sub-sum-at-2
-    add-sum-at-2
+    enum-told-2
+    add-sum-at
     sum-at-requires-2
-    sub-sum-at-3
-    add-sum-at-3
-    sum-at-requires-3
+    returns
     returns-2
     returns-3)

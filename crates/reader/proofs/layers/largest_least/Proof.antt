@@ -41,9 +41,10 @@ loop-again : tie.Need-loop-again Inv-loop μ-loop
 loop-again c =
     let start = c .before .before .before .before in
     let least = start .args .layers .least in
-    let more : c .before .before .loop .layer < length least = omega (arith, start .pre, c .before .loop-test .taken) in
-    let turn = largest-turn least (c .before .before .loop .layer) (c .before .before .loop .largest) more in
-    ⊎-elim (λ w. omega (arith, turn, c .before .before .loop .inv, w .0 .taken, w .1)) (λ w. omega (arith, turn, c .before .before .loop .inv, w .0 .left, w .1)) (c .if1 .came)
+    let here = c .before .before .loop in
+    let more : here .layer < length least = omega (arith, start .pre, c .before .loop-test .taken) in
+    let turn = largest-turn least (here .layer) (here .largest) more in
+    ⊎-elim (λ w. omega (arith, turn, here .inv, w .0 .taken, w .1)) (λ w. omega (arith, turn, here .inv, w .0 .left, w .1)) (c .if1 .came)
 
 returns : tie.Need-returns Inv-loop μ-loop
 returns c =

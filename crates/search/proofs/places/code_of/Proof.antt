@@ -21,7 +21,9 @@ segment-code-requires : tie.Need-segment-code-requires
 segment-code-requires c κs = search needs
 
 add-result-2 : tie.Need-add-result-2
-add-result-2 c = omega (arith, vertex-fits (c .before .before .pre .2) (c .before .before .pre .1), c .segment-code .ensures, segment-below _ _ (c .before .before .pre .3))
+add-result-2 c =
+    let pre = c .before .before .pre in
+    omega (arith, vertex-fits (pre .2) (pre .1), c .segment-code .ensures, segment-below _ _ (pre .3))
 
 returns : tie.Need-returns
 unfolding codeBy

@@ -9,7 +9,8 @@ use Rattle.rules.proofs.Held.{line-fits}
 use Rattle.rules.proofs.PriceLists.{line-told}
 use Rattle.rules.proofs.Entering.{owed-told}
 use Rattle.search.specs.Tries.{OwedFor}
-use Rattle.search.proofs.Asking.{settled-here, closed-owed, price-small, price-owed}
+use Rattle.search.proofs.Asking.{settled-here}
+use Rattle.search.proofs.Vias.{closed-owed, price-small, price-owed}
 use Rattle.search.proofs.tries.ask_owed.Statement.{statement}
 use Rattle.search.proofs.tries.ask_owed.Tie as tie
 

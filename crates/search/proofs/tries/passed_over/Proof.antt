@@ -7,7 +7,8 @@ use borrow.Author.Tests.{leb-true}
 use lib.ListN.{getD}
 use Rattle.heap.specs.Heaps.{keyOf}
 use Rattle.rules.specs.Structs.{segmentOf}
-use Rattle.search.proofs.Asking.{settled-fields, fresh-asked, fresh-made, fresh-here, fresh-left, fresh-small}
+use Rattle.search.proofs.Asking.{settled-fields}
+use Rattle.search.proofs.Vias.{fresh-asked, fresh-made, fresh-here, fresh-left, fresh-small}
 use Rattle.search.proofs.tries.passed_over.Statement.{statement}
 use Rattle.search.proofs.tries.passed_over.Tie as tie
 
@@ -16,7 +17,7 @@ unfolding segmentOf
 code-of-requires c κs = fresh-asked (c .before .pre .0) _ (c .before .pre .3)
 
 key-of-requires : tie.Need-key-of-requires
-key-of-requires c κs = fresh-here (c .before .before .pre .0) _ (c .before .before .pre .3) (c .code-of .ensures) (c .before .before .pre .2)
+key-of-requires c κs = let pre = c .before .before .pre in fresh-here (pre .0) _ (pre .3) (c .code-of .ensures) (pre .2)
 
 returns : tie.Need-returns
 returns c e = absurd (true≢false (sym e))

@@ -5,7 +5,7 @@ use borrow.Author.Needs.{needs}
 use Rattle.rules.specs.Structs.{segmentOf, costOf, byOwed}
 use Rattle.rules.proofs.PriceLists.{charged}
 use Rattle.search.specs.Tries.{triedOf}
-use Rattle.search.proofs.Asking.{field-small}
+use Rattle.search.proofs.Vias.{field-small}
 use Rattle.search.proofs.tries.to_fresh.Statement.{statement}
 use Rattle.search.proofs.tries.to_fresh.Tie as tie
 

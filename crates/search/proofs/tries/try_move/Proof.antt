@@ -1,37 +1,36 @@
--- `search::tries::try_move` meets its contract: numbers 0 and 1 step along the track, others are vias.
-use mathlib.Core.Path.{refl}
-use native.Mathlib.Omega.{arith}
-use Rattle.rules.specs.Segments.{kindOf}
-use Rattle.rules.specs.Structs.{directionOf}
+-- `search::tries::try_move` meets its contract: a step along the track, or a via.
+use mathlib.Core.Path.{sym, ap, subst, _∙_}
+use borrow.Author.Needs.{needs}
+use Rattle.rules.specs.Structs.{kindBy, Via}
+use Rattle.rules.proofs.Entering.{via-told}
 use Rattle.search.proofs.Reaching.{attempt-told}
 use Rattle.search.proofs.tries.try_move.Statement.{statement}
 use Rattle.search.proofs.tries.try_move.Tie as tie
 
-try-along-requires : tie.Need-try-along-requires
-unfolding kindOf directionOf
-try-along-requires c κs = (c .before .before .pre .0, c .before .before .pre .1, refl)
+kind-of-requires : tie.Need-kind-of-requires
+kind-of-requires c κs = search needs
 
-try-along-requires-2 : tie.Need-try-along-requires-2
-unfolding kindOf directionOf
-try-along-requires-2 c κs = (c .before .before .pre .0, c .before .before .pre .1, refl)
+enum-known-toward : tie.Need-enum-known-toward
+enum-known-toward c = search needs
 
 try-via-requires : tie.Need-try-via-requires
 try-via-requires c κs =
-    let pre = c .before .before .pre in
-    let ((none, not0), not1) = c .match .rest in
-    (pre .0, pre .1, pre .2, pre .3, pre .4, omega (arith, not0, not1))
+    let pre = c .before .before .before .pre in
+    (pre .0, pre .1, pre .2, pre .3, pre .4, subst Via (c .before .kind-of .ensures) (via-told _ (c .match .keys2)))
 
 returns : tie.Need-returns
-returns c =
-    rw (c .before .match .keys1) (attempt-told _ _ _ (c .try-along .ensures .0) (rw (c .try-along .ensures .1) (c .before .before .before .pre .4)))
+returns c = c .try-via .ensures
+
+try-along-requires : tie.Need-try-along-requires
+unfolding kindBy
+try-along-requires c κs =
+    let pre = c .before .before .before .before .before .pre in
+    (pre .0, pre .1, sym (c .before .before .before .kind-of .ensures) ∙ ap kindBy (c .before .toward .given .1))
 
 returns-2 : tie.Need-returns-2
 returns-2 c =
-    rw (c .before .match .keys2) (attempt-told _ _ _ (c .try-along2 .ensures .0) (rw (c .try-along2 .ensures .1) (c .before .before .before .pre .4)))
-
-returns-3 : tie.Need-returns-3
-returns-3 c = c .try-via .ensures
+    let pre = c .before .before .before .before .before .before .pre in
+    attempt-told _ _ _ (c .try-along .ensures .0) (rw (c .try-along .ensures .1) (pre .4))
 
 pub try-move-spec : {M : Type 1} → statement M
-try-move-spec =
-    tie.close (tie.spec try-along-requires try-along-requires-2 try-via-requires returns returns-2 returns-3)
+try-move-spec = tie.close (tie.spec kind-of-requires enum-known-toward try-via-requires returns try-along-requires returns-2)

@@ -54,7 +54,7 @@ returns-3 c =
     let pre = c .before .before .before .before .before .before .before .before .before .before .before .pre in
     let opens = sym (c .before .before .before .before .before .before .before .entry-of .ensures _ (settled-here (pre .0) (pre .1)) refl) ∙ c .before .before .before .before .before .into .given .1 in
     attempt-told _ _ _
-    (c .to-fresh .ensures .0 ∙ rw (c .before .ask-owed .ensures .0) (priced-via _ _ _ _ opens (λ e. omega (arith, e, pre .5)) (λ e. omega (arith, e, pre .5))))
+    (c .to-fresh .ensures .0 ∙ rw (c .before .ask-owed .ensures .0) (priced-via _ _ _ _ opens (pre .5)))
     (rw (c .to-fresh .ensures .1) (λ asked. c .before .ask-owed .ensures .0))
 
 pub try-via-spec : {M : Type 1} → statement M

@@ -49,7 +49,10 @@ same-length c = c .before .loop .inv .size
 returns : tie.Need-returns Inv-loop μ-loop
 returns c =
     let pre = c .before .before .before .before .before .pre in
-    row-end (c .before .loop .inv) (record { layerOn = pre .2; rowOn = pre .3; position = c .before .before .before .number .ensures; ends = c .before .before .end-below .ensures .0; within = c .before .before .end-below .ensures .1; all = c .before .before .end-below .ensures .2 }) (pre .1) (omega arith)
+    let end = c .before .before .end-below .ensures in
+    let number = c .before .before .before .number .ensures in
+    row-end (c .before .loop .inv) (record { layerOn = pre .2; rowOn = pre .3; position = number; ends = end .0; within = end .1; all = end .2 }) (pre .1)
+    (omega arith)
 
 pub guide-row-spec : {M : Type 1} → statement M
 guide-row-spec =
