@@ -1,7 +1,7 @@
 -- A vertex and a move by coordinates.
 --     vertex-fields                            the coordinates of a vertex lie in their fields' ranges
 --     OneOn, Changed, changed                  a move changes one coordinate by one, by its kind
---     bound-column, bound-row, bound-via       the bound of the vertex entered, by the coordinates of the one
+--     bound-along, bound-via                   the bound of the vertex entered, by the coordinates of the one
 --                                              left
 --     small-sum, bare-small                    what is left is small, and in an array of zeros
 use Prim.Native.Nat.{ℕ, zero, suc, _+_, _-_, _^_, _≤_, _<_}
@@ -23,7 +23,7 @@ use Rattle.rules.specs.Structs.{OnGrid, nextOn}
 use Rattle.rules.proofs.Vertices.{vertex-below}
 use Rattle.rules.proofs.Neighbours.{OneHigh, low-enters, high-enters, high-vertex, down-enters, up-enters}
 use Rattle.rules.proofs.Members.{not-both}
-use Rattle.bounds.specs.Bounds.{boundAt, SmallBounds}
+use Rattle.bounds.specs.Bounds.{sumAt, sumAlong, boundAt, SmallBounds}
 
 -- the coordinates of a vertex lie in their fields' ranges
 pub vertex-fields : (g : GridStruct) (v : ℕ) → OnGrid g v → InFields (vertexStruct (vertexBy (gridOf g) v))
@@ -36,28 +36,28 @@ unfoldable pub OneOn : Direction → (x y : ℕ) → Type 0
 OneOn low x y = suc y ≡ x
 OneOn high x y = y ≡ suc x
 
--- a via goes down or up
-unfoldable pub viaOn : Direction → Kind
-viaOn low = down
-viaOn high = up
-
--- by their difference
+-- they differ by one
 pub one-near : (d : Direction) {x y : ℕ} → OneOn d x y → (x ≤ y + 1) × (y ≤ x + 1)
 unfolding OneOn
 one-near low o = (omega (arith, o), omega (arith, o))
 one-near high o = (omega (arith, o), omega (arith, o))
 
--- so are the positions of their entries
-one-next : (d : Direction) (from x y : ℕ) → OneOn d x y → nextOn 1 d (from + x) ≡ from + y
+-- the positions of their entries are next to each other
+entry-next : (d : Direction) (from x y : ℕ) → OneOn d x y → nextOn 1 d (from + x) ≡ from + y
 unfolding OneOn nextOn
-one-next low from x y o = omega (arith, o)
-one-next high from x y o = omega (arith, o)
+entry-next low from x y o = omega (arith, o)
+entry-next high from x y o = omega (arith, o)
 
--- a position is at most one further
+-- the next position is at most one further
 pub next-few : (d : Direction) (x : ℕ) {y n : ℕ} → y ≡ nextOn 1 d x → x + 1 < n → y < n
 unfolding nextOn
 next-few low x is few = omega (arith, is, few)
 next-few high x is few = omega (arith, is, few)
+
+-- a via goes down or up
+unfoldable pub viaOn : Direction → Kind
+viaOn low = down
+viaOn high = up
 
 -- a move of a kind changes one coordinate to the next in a direction
 pub data Changed (g : Grid) (k : Kind) (v w : ℕ) : Type 0 where
@@ -134,8 +134,8 @@ via-once high high one other = refl
 
 module _ (g : Grid) (bounds : List ℕ) (k : Kind) (v w : ℕ) {from : VertexStruct} (is : from ≡ vertexStruct (vertexBy g v)) where
   -- by its entries
-  bound-by : {i j k : ℕ} → i ≡ 1 + rowOf g w → j ≡ 258 + columnOf g w → k ≡ 516 + layerOf g w
-      → getD bounds i 0 + (getD bounds j 0 + getD bounds k 0) ≡ boundAt g bounds w
+  bound-by : {row column layer : ℕ} → row ≡ 1 + rowOf g w → column ≡ 258 + columnOf g w → layer ≡ 516 + layerOf g w
+      → sumAt bounds row column layer ≡ boundAt g bounds w
   unfolding boundAt
   bound-by onRow onColumn onLayer = rw (onRow, onColumn, onLayer) refl
 
@@ -148,29 +148,25 @@ module _ (g : Grid) (bounds : List ℕ) (k : Kind) (v w : ℕ) {from : VertexStr
   isLayer : from .layer ≡ layerOf g v
   isLayer = ap (λ (x : VertexStruct). x .layer) is
 
-  -- a step that changes the column
-  pub bound-column : (d : Direction) → k ≡ along d → stepsColumn g (from .layer) ≡ true → Changed g k v w
-      → getD bounds (1 + from .row) 0 + (getD bounds (nextOn 1 d (258 + from .column)) 0 + getD bounds (516 + from .layer) 0) ≡ boundAt g bounds w
-  bound-column d step steps (column e same-step on-column same-layer same-row next) =
-      bound-by (omega (arith, isRow, same-row)) (rw (isColumn, step-once step same-step) (one-next e 258 _ _ next)) (omega (arith, isLayer, same-layer))
-  bound-column d step steps (row e same-step on-row same-layer same-column next) =
-      absurd (not-both (ap (stepsColumn g) (sym isLayer) ∙ steps) on-row)
-  bound-column d step steps (layer e via same-row same-column next) = absurd (step-no-via d e step via)
-
-  -- the row
-  pub bound-row : (d : Direction) → k ≡ along d → stepsColumn g (from .layer) ≡ false → Changed g k v w
-      → getD bounds (nextOn 1 d (1 + from .row)) 0 + (getD bounds (258 + from .column) 0 + getD bounds (516 + from .layer) 0) ≡ boundAt g bounds w
-  bound-row d step steps (row e same-step on-row same-layer same-column next) =
-      bound-by (rw (isRow, step-once step same-step) (one-next e 1 _ _ next)) (omega (arith, isColumn, same-column)) (omega (arith, isLayer, same-layer))
-  bound-row d step steps (column e same-step on-column same-layer same-row next) =
-      absurd (not-both on-column (ap (stepsColumn g) (sym isLayer) ∙ steps))
-  bound-row d step steps (layer e via same-row same-column next) = absurd (step-no-via d e step via)
+  -- a step
+  pub bound-along : (d : Direction) → k ≡ along d → (steps : Bool) → steps ≡ stepsColumn g (from .layer) → Changed g k v w
+      → sumAlong bounds (1 + from .row) (258 + from .column) (516 + from .layer) steps d ≡ boundAt g bounds w
+  bound-along d step true steps (column e same-step on-column same-layer same-row next) =
+      bound-by (omega (arith, isRow, same-row)) (rw (isColumn, step-once step same-step) (entry-next e 258 _ _ next)) (omega (arith, isLayer, same-layer))
+  bound-along d step false steps (row e same-step on-row same-layer same-column next) =
+      bound-by (rw (isRow, step-once step same-step) (entry-next e 1 _ _ next)) (omega (arith, isColumn, same-column)) (omega (arith, isLayer, same-layer))
+  bound-along d step true steps (row e same-step on-row same-layer same-column next) =
+      absurd (not-both (ap (stepsColumn g) (sym isLayer) ∙ sym steps) on-row)
+  bound-along d step false steps (column e same-step on-column same-layer same-row next) =
+      absurd (not-both on-column (ap (stepsColumn g) (sym isLayer) ∙ sym steps))
+  bound-along d step true steps (layer e via same-row same-column next) = absurd (step-no-via d e step via)
+  bound-along d step false steps (layer e via same-row same-column next) = absurd (step-no-via d e step via)
 
   -- a via
   pub bound-via : (d : Direction) → k ≡ viaOn d → Changed g k v w
-      → getD bounds (1 + from .row) 0 + (getD bounds (258 + from .column) 0 + getD bounds (nextOn 1 d (516 + from .layer)) 0) ≡ boundAt g bounds w
+      → sumAt bounds (1 + from .row) (258 + from .column) (nextOn 1 d (516 + from .layer)) ≡ boundAt g bounds w
   bound-via d via (layer e same-via same-row same-column next) =
-      bound-by (omega (arith, isRow, same-row)) (omega (arith, isColumn, same-column)) (rw (isLayer, via-once d e via same-via) (one-next e 516 _ _ next))
+      bound-by (omega (arith, isRow, same-row)) (omega (arith, isColumn, same-column)) (rw (isLayer, via-once d e via same-via) (entry-next e 516 _ _ next))
   bound-via d via (column e step on-column same-layer same-row next) = absurd (step-no-via e d step via)
   bound-via d via (row e step on-row same-layer same-column next) = absurd (step-no-via e d step via)
 

@@ -36,8 +36,8 @@ pub via-told : (k : KindEnum) → (tagOf the-type k ≡ 1) ⊎ (tagOf the-type k
 unfolding Via kindBy
 via-told (Along d) (inl e) = let z : _≡_ {A = ℕ} 0 1 = e in omega (arith, z)
 via-told (Along d) (inr e) = let z : _≡_ {A = ℕ} 0 2 = e in omega (arith, z)
-via-told Down e = Prim.tt
-via-told Up e = Prim.tt
+via-told Down e = tt
+via-told Up e = tt
 
 -- a via leaves the segment
 pub via-leaves : (t : Tech) (view : View) (p : Place) (k : Kind) (w enter : ℕ) → Via k

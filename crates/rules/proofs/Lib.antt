@@ -16,7 +16,7 @@
 --     Entries        every record that routing writes is the join of what stands
 --     Fitting        numbers of a vertex that fit a word, for the code
 --     Held           what the code holds of a net's view, of layers and of prices
---     Lists          lists of numbers that are filled place by place, and the price list among them
+--     Lists          lists of numbers that are filled entry by entry, and the price list among them
 --     PriceLists     what a list that holds a job's prices tells
 --     Entering       a move's price and the place that it leads to, by the vertex that it enters
 --     Stepping       what the code's steps mean

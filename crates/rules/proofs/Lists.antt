@@ -1,4 +1,4 @@
--- Lists of numbers that are filled place by place, and the price list among them.
+-- Lists of numbers that are filled entry by entry, and the price list among them.
 --     Filled, filled-none, filled-turn        the first n places from one on have their numbers
 --     sets-before, sets-at                    numbers put in a row: the places before it, and its own
 --     LinesSoFar, lines-none, lines-turn      the first n layers have their lines

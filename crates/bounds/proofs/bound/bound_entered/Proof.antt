@@ -3,7 +3,7 @@ use mathlib.Core.Path.{sym, ap, _∙_}
 use borrow.Author.Needs.{needs}
 use Rattle.rules.specs.Segments.{low, high}
 use Rattle.rules.specs.Structs.{kindBy, nextOn}
-use Rattle.bounds.proofs.Coordinates.{viaOn, changed, bound-via}
+use Rattle.bounds.proofs.Coordinates.{viaOn, changed, bound-along, bound-via}
 use Rattle.bounds.proofs.bound.bound_entered.Statement.{statement}
 use Rattle.bounds.proofs.bound.bound_entered.Tie as tie
 
@@ -22,8 +22,11 @@ kind-of-requires c κs = search needs
 enum-known-kind : tie.Need-enum-known-kind
 enum-known-kind c = search needs
 
-bound-along-requires : tie.Need-bound-along-requires
-bound-along-requires c κs = search needs
+steps-column-requires : tie.Need-steps-column-requires
+steps-column-requires c κs = search needs
+
+sum-along-requires : tie.Need-sum-along-requires
+sum-along-requires c κs = search needs
 
 enum-told : tie.Need-enum-told
 enum-told c = search needs
@@ -46,8 +49,8 @@ sum-at-requires-2 c κs = search needs
 returns : tie.Need-returns
 unfolding kindBy
 returns c v w on is e =
-    let step = sym (c .before .before .before .before .kind-of .ensures) ∙ ap kindBy (c .before .before .kind .given .1) in
-    c .bound-along .ensures v w _ on is step e
+    let step = sym (c .before .before .before .before .before .kind-of .ensures) ∙ ap kindBy (c .before .before .before .kind .given .1) in
+    c .sum-along .ensures ∙ bound-along _ _ _ v w is _ step _ (c .before .steps-column .ensures) (changed _ _ on e)
 
 returns-2 : tie.Need-returns-2
 unfolding kindBy viaOn nextOn
@@ -70,7 +73,8 @@ bound-entered-spec =
     add-layer
     kind-of-requires
     enum-known-kind
-    bound-along-requires
+    steps-column-requires
+    sum-along-requires
     enum-told
     sub-sum-at
     sum-at-requires
