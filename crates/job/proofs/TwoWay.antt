@@ -17,14 +17,14 @@ mod Jobs
 use Prim.Native.Nat.{ℕ, _+_, _<_}
 use mathlib.Core.Path.{_≡_, refl}
 use mathlib.Core.Logic.{_↔_}
-use mathlib.Core.List.{List, [], _∷_, _++_, append-assoc}
+use mathlib.Core.List.{List, [], _∷_, _++_, append-assoc, flatMap}
 use lib.ListN.{length, take, drop, replicate}
 use lib.Seq.{take-append-seam}
 use Rattle.bits.specs.Bits.{bitsOf, AllBelow}
 use Rattle.bits.proofs.Laws.{bitsOf-bits}
 use Rattle.job.specs.Job.{Net, Job}
 use Rattle.job.specs.Reading.{good, jobHead, obstaclesAt, netsAt, netsWidth, readJob}
-use Rattle.job.specs.Packing.{concatBits, netBits, jobBits, packJob}
+use Rattle.job.specs.Packing.{netBits, jobBits, packJob}
 use Rattle.job.specs.Good.{GoodJob}
 use Rattle.job.proofs.Tests.{tests}
 use Rattle.job.proofs.Binds.{steps}
@@ -55,15 +55,15 @@ unfoldable pub netAt : Job → (i : ℕ) → ℕ
 netAt j i = netsAt (jobHead j) + netsWidth (take i (j .nets))
 
 -- the bits of two lists of groups
-concat-append : {A : Type 0} (bits : A → List ℕ) (xs ys : List A) → concatBits bits (xs ++ ys) ≡ concatBits bits xs ++ concatBits bits ys
-unfolding concatBits
+concat-append : {A : Type 0} (bits : A → List ℕ) (xs ys : List A) → flatMap bits (xs ++ ys) ≡ flatMap bits xs ++ flatMap bits ys
+unfolding flatMap
 concat-append bits [] ys = refl
 concat-append bits (x ∷ xs) ys = rw (concat-append bits xs ys, append-assoc)
 
 -- where nets stand, each stands behind those before it
 one-placed : (B : List ℕ) (at : ℕ) (before : List Net) (net : Net) (after : List Net)
-    → Placed B at (concatBits netBits (before ++ (net ∷ after))) → Placed B (at + netsWidth before) (netBits net)
-unfolding concatBits
+    → Placed B at (flatMap netBits (before ++ (net ∷ after))) → Placed B (at + netsWidth before) (netBits net)
+unfolding flatMap
 one-placed B at before net after p = (simp (concat-append netBits before (net ∷ after), placed-append, nets-bits) at p) .1 .0
 
 -- a net's bits stand there

@@ -1,6 +1,6 @@
 -- A job laid out as bytes, group by group.
 use Prim.Native.Nat.{ℕ, _-_}
-use mathlib.Core.List.{List, [], _∷_, _++_}
+use mathlib.Core.List.{List, [], _∷_, _++_, flatMap}
 use lib.ListN.{length}
 use Rattle.bits.specs.Bits.{fieldBits, packBits}
 use Rattle.job.specs.Grid.{Vertex}
@@ -10,11 +10,6 @@ use Rattle.job.specs.Job.{Layer, Obstacle, Box, Net, Job}
 unfoldable pub groupBits : List (ℕ × ℕ) → List ℕ
 groupBits [] = []
 groupBits (f ∷ fs) = fieldBits (f .0) (f .1) ++ groupBits fs
-
--- the bits of each, one after the other
-unfoldable pub concatBits : {A : Type 0} → (A → List ℕ) → List A → List ℕ
-concatBits bits [] = []
-concatBits bits (x ∷ xs) = bits x ++ concatBits bits xs
 
 unfoldable pub headBits : Job → List ℕ
 headBits j =
@@ -39,12 +34,12 @@ boxBits b =
 unfoldable pub netBits : Net → List ℕ
 netBits net =
     groupBits ((4, length (net .pins) - 1) ∷ (4, length (net .boxes)) ∷ [])
-    ++ (concatBits vertexBits (net .pins) ++ concatBits boxBits (net .boxes))
+    ++ (flatMap vertexBits (net .pins) ++ flatMap boxBits (net .boxes))
 
 unfoldable pub jobBits : Job → List ℕ
 jobBits j =
     headBits j
-    ++ (concatBits layerBits (j .lines) ++ (concatBits obstacleBits (j .obstacles) ++ concatBits netBits (j .nets)))
+    ++ (flatMap layerBits (j .lines) ++ (flatMap obstacleBits (j .obstacles) ++ flatMap netBits (j .nets)))
 
 unfoldable pub packJob : Job → List ℕ
 packJob j = packBits (jobBits j)

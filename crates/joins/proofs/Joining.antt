@@ -5,13 +5,13 @@
 --     written-joined                 the record is the join of what stands
 use Prim.Native.Nat.{ℕ, _+_, _*_, _^_, _<_}
 use mathlib.Core.Path.{_≡_, refl, sym, ap, subst, _∙_}
-use mathlib.Core.List.{List, [], _∷_, _++_}
+use mathlib.Core.List.{List, [], _∷_, _++_, flatMap}
 use native.Mathlib.Omega.{arith}
 use lib.ListN.{length}
 use Rattle.bits.specs.Bits.{fieldBits, putBits}
 use Rattle.bits.proofs.Laws.{length-fieldBits, putBits-append}
 use Rattle.job.specs.Grid.{Grid, vertices}
-use Rattle.job.specs.Packing.{groupBits, concatBits}
+use Rattle.job.specs.Packing.{groupBits}
 use Rattle.job.proofs.TwoWay.Places.{widths, length-groupBits}
 use Rattle.job.proofs.TwoWay.Widths.{concat-bits}
 use Rattle.rules.specs.Tracks.{layerOf, rowOf, columnOf}
@@ -36,12 +36,12 @@ use Rattle.joins.proofs.Found.{found-join, found-led}
 -- its fields and moves, put one after the other, are its bits
 pub record-put : (g : Grid) (start cost : ℕ) (moves : List ℕ) (s : List ℕ) (at : ℕ) {count : ℕ} {a b c : List ℕ} → count ≡ length moves
     → a ≡ putBits s at (groupBits ((1, 1) ∷ (3, layerOf g start) ∷ (8, rowOf g start) ∷ (8, columnOf g start) ∷ (20, count) ∷ []))
-    → b ≡ putBits a (at + 40) (concatBits (fieldBits 2) moves) → c ≡ putBits b (at + 40 + 2 * count) (fieldBits 40 cost)
+    → b ≡ putBits a (at + 40) (flatMap (fieldBits 2) moves) → c ≡ putBits b (at + 40 + 2 * count) (fieldBits 40 cost)
     → c ≡ putBits s at (recordBits g (join start moves cost))
 unfolding recordBits widths
 record-put g start cost moves s at {count} counted first walked paid =
     let fields : List (ℕ × ℕ) = (1, 1) ∷ (3, layerOf g start) ∷ (8, rowOf g start) ∷ (8, columnOf g start) ∷ (20, length moves) ∷ [] in
-    let bits = concatBits (fieldBits 2) moves in
+    let bits = flatMap (fieldBits 2) moves in
     let one : at + length (groupBits fields) ≡ at + 40 = ap (λ (n : ℕ). at + n) (length-groupBits fields) in
     let two : at + 40 + length bits ≡ at + 40 + 2 * count = rw (concat-bits (fieldBits 2) 2 (length-fieldBits 2) moves, counted) refl in
     paid ∙ (λ i. putBits (walked i) (sym two i) (fieldBits 40 cost)) ∙ sym (putBits-append _ (at + 40) bits (fieldBits 40 cost))

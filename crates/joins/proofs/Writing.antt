@@ -9,13 +9,12 @@
 --     writing-done                            after the last
 use Prim.Native.Nat.{ℕ, suc, _+_, _-_, _*_, _^_, _≤_, _<_}
 use mathlib.Core.Path.{_≡_, refl, sym, ap, _∙_}
-use mathlib.Core.List.{List, [], _∷_, _++_}
+use mathlib.Core.List.{List, [], _∷_, _++_, flatMap}
 use mathlib.Core.Bool.{Bool, true, false}
 use native.Mathlib.Omega.{arith}
 use lib.ListN.{length, set}
 use Rattle.bits.specs.Bits.{fieldBits, putBits}
 use Rattle.bits.proofs.Laws.{length-fieldBits, length-putBits, putBits-append}
-use Rattle.job.specs.Packing.{concatBits}
 use Rattle.job.specs.Structs.{gridOf}
 use Rattle.paths.specs.Systems.{blocked, to, System}
 use Rattle.paths.specs.Distances.{Cost, lowestKeeping, follow}
@@ -86,7 +85,7 @@ module _ (tech : TechStruct) (seen bounds work : List ℕ) (net from best count 
     pub joins : 0 < left → OnJoin (techBy tech) view (first .spots) bounds work best (gone .place)
     pub same : enterAll (techBy tech) view net route (goneAt start) first
         ≡ enterAll (techBy tech) view net (moves-from fuel (gone .place)) gone (record { spots = spots; codes = codes })
-    pub bits : putBits found from (concatBits (fieldBits 2) route) ≡ putBits plan at (concatBits (fieldBits 2) (moves-from fuel (gone .place)))
+    pub bits : putBits found from (flatMap (fieldBits 2) route) ≡ putBits plan at (flatMap (fieldBits 2) (moves-from fuel (gone .place)))
     pub next : at + 2 * left ≡ from + 2 * count
     pub few : left ≤ count
     pub size : length codes ≡ length (first .codes)
@@ -188,7 +187,7 @@ module _ (tech : TechStruct) (seen bounds work : List ℕ) (net from best count 
             → after ≡ layAll net (extended (gridOf (tech .grid)) (walk .place .vertex) (m .extension) ++ (m .next .vertex ∷ [])) codes
             → longer ≡ putBits plan at (fieldBits 2 number) → next ≡ at + 2 → further ≡ walkOn walk m
             → Writing more after longer further next (left - 1)
-        unfolding goneOn madeBy concatBits
+        unfolding goneOn madeBy flatMap
         writing-on fits charted {more} {after} {longer} {further} {next} tree-is laid put moved walked =
             let arrays = made-entered tech view (walk .place) number m is-step is-whole net spots codes tree-is laid in
             let one : count - (left - 1) ≡ suc (count - left) = omega (arith, so-far .few, some) in
@@ -207,9 +206,9 @@ module _ (tech : TechStruct) (seen bounds work : List ℕ) (net from best count 
                   ∙ enter-step (techBy tech) view net number rest (so-far .gone) _ here
                   ∙ ap (enterAll (techBy tech) view net rest (goneOn (so-far .gone) made)) arrays;
               bits =
-                  so-far .bits ∙ ap (λ (ms : List ℕ). putBits plan at (concatBits (fieldBits 2) ms)) is-first
-                  ∙ putBits-append plan at (fieldBits 2 number) (concatBits (fieldBits 2) rest)
-                  ∙ (λ i. putBits (sym put i) (wide i) (concatBits (fieldBits 2) rest));
+                  so-far .bits ∙ ap (λ (ms : List ℕ). putBits plan at (flatMap (fieldBits 2) ms)) is-first
+                  ∙ putBits-append plan at (fieldBits 2 number) (flatMap (fieldBits 2) rest)
+                  ∙ (λ i. putBits (sym put i) (wide i) (flatMap (fieldBits 2) rest));
               next = omega (arith, so-far .next, some, moved);
               few = omega (arith, so-far .few);
               size = ap (λ (l : List ℕ). length l) laid ∙ laid-length net _ codes ∙ so-far .size;
@@ -221,11 +220,11 @@ module _ (tech : TechStruct) (seen bounds work : List ℕ) (net from best count 
       → IsEntered walk (enterAll (techBy tech) view net route (goneAt start) first) × (WalkFits walk
       × ((spots ≡ leftIn first (enterAll (techBy tech) view net route (goneAt start) first) .spots)
       × ((codes ≡ leftIn first (enterAll (techBy tech) view net route (goneAt start) first) .codes)
-      × (plan ≡ putBits found from (concatBits (fieldBits 2) route)))))
-  unfolding enterAll IsEntered leftIn concatBits putBits
+      × (plan ≡ putBits found from (flatMap (fieldBits 2) route)))))
+  unfolding enterAll IsEntered leftIn flatMap putBits
   writing-done {spots} {codes} {plan} {walk} {at} so-far none few =
       let nothing = empty (moves-from (so-far .fuel) (so-far .gone .place)) (omega (arith, so-far .rest, none)) in
       let all : enterAll (techBy tech) view net route (goneAt start) first ≡ entered (so-far .gone) (record { spots = spots; codes = codes }) =
       so-far .same ∙ ap (λ (ms : List ℕ). enterAll (techBy tech) view net ms (so-far .gone) (record { spots = spots; codes = codes })) nothing in
-      let written = so-far .bits ∙ ap (λ (ms : List ℕ). putBits plan at (concatBits (fieldBits 2) ms)) nothing in
+      let written = so-far .bits ∙ ap (λ (ms : List ℕ). putBits plan at (flatMap (fieldBits 2) ms)) nothing in
       rw all (so-far .made .is, (made-all (so-far .made) (omega (arith, few)), (refl, (refl, sym written))))

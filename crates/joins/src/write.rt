@@ -6,7 +6,7 @@ ghost use Prim.Native.Nat.{ℕ, _<_, _≤_, _^_};
 ghost use lib.ListN.{length};
 ghost use Rattle.bits.specs.Bits.{fieldBits, putBits};
 ghost use Rattle.job.specs.Grid.{vertices};
-ghost use Rattle.job.specs.Packing.{concatBits};
+ghost use mathlib.Core.List.{flatMap};
 ghost use Rattle.job.specs.Structs.{gridOf};
 ghost use Rattle.rules.specs.PriceLists.{Priced};
 ghost use Rattle.rules.specs.Structs.{TechFits, techBy, seenBy};
@@ -57,7 +57,7 @@ pub fn write_moves(
     ensures map { λ _. ⌜ now (map .exit) ≡ leftIn (record { spots = now (spots .entry); codes = now (map .entry) })
         (enterAll (techBy tech) (seenBy tech (now (seen .entry))) net
         (routeBy (techBy tech) (seenBy tech (now (seen .entry))) (now (spots .entry)) (route .start)) (goneAt (route .start)) (record { spots = now (spots .entry); codes = now (map .entry) })) .codes ⌝ }
-    ensures plan { λ _. ⌜ now (plan .exit) ≡ putBits (now (plan .entry)) from (concatBits (fieldBits 2)
+    ensures plan { λ _. ⌜ now (plan .exit) ≡ putBits (now (plan .entry)) from (flatMap (fieldBits 2)
         (routeBy (techBy tech) (seenBy tech (now (seen .entry))) (now (spots .entry)) (route .start))) ⌝ }
 {
     let mut walk = walk_from(route.start);

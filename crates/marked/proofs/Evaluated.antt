@@ -3,7 +3,7 @@
 --     records-of-job     routing each row's job by tables that pass their tests writes its records
 --     plan-of-A          the plan of the first row
 use mathlib.Core.Path.{_≡_, refl}
-use mathlib.Core.List.{List, [], _∷_}
+use mathlib.Core.List.{List, [], _∷_, flatMap}
 use Rattle.bits.specs.Bits.{fieldBits, number, bitsOf, packTo, packBits, field, whole}
 use Rattle.job.specs.Lists.{any, all, All}
 use Rattle.job.specs.Grid.{vertices, vertexNumber, inside, same, stepsColumn, nextHigh, runHigh, strideOf}
@@ -11,7 +11,7 @@ use Rattle.job.specs.Job.{largestMinLength}
 use Rattle.job.specs.Reading.{good, _>>=_, _>>_, rule, readMany, headAt, readHead, layerAt, viaRule, readLayer, vertexAt, covered, onObstacle, readPin, readPins}
 use Rattle.job.specs.Reading.{boxAt, goodSpan, goodBox, readBox, readNetHead, readNet, netWidth, readNets, netsWidth, readTail, obstaclesAt, netsAt}
 use Rattle.job.specs.Reading.{readAfterHead, readBits, readJob}
-use Rattle.job.specs.Packing.{groupBits, concatBits}
+use Rattle.job.specs.Packing.{groupBits}
 use Rattle.paths.specs.Distances.{isCost, onward, keeps, lowestFrom, lowestKeeping, moveOn, follow}
 use Rattle.paths.specs.Starts.{orNext, best, startCost}
 use Rattle.rules.specs.Tracks.{layerOf, rowOf, columnOf, trackIndex, trackLength, ifThere, entered}
@@ -68,5 +68,5 @@ records-of-job = ((costsA, refl), ((costsB, refl), ((costsC, refl), ((costsD, re
 
 -- "the program writes `80 00 00 00 03 54 00 00 00 00 0C`": the bytes of A's plan
 pub plan-of-A : planBytes (rowA .job .grid) (rowA .records) ≡ 0x80 ∷ 0x00 ∷ 0x00 ∷ 0x00 ∷ 0x03 ∷ 0x54 ∷ 0x00 ∷ 0x00 ∷ 0x00 ∷ 0x00 ∷ 0x0C ∷ []
-unfolding rowA viaBelow plainLines plainJob pin fieldBits number packTo packBits groupBits concatBits layerOf rowOf columnOf recordBits planBytes
+unfolding rowA viaBelow plainLines plainJob pin fieldBits number packTo packBits groupBits flatMap layerOf rowOf columnOf recordBits planBytes
 plan-of-A = refl

@@ -7,14 +7,14 @@ use Prim.Native.Nat.{ℕ, _+_, _<_}
 use native.Mathlib.Omega.{arith}
 use mathlib.Core.Path.{_≡_, refl, sym, subst}
 use mathlib.Core.Logic.{_↔_, Iff·rfl}
-use mathlib.Core.List.{List, [], _∷_, _++_, append-assoc}
+use mathlib.Core.List.{List, [], _∷_, _++_, append-assoc, flatMap}
 use lib.ListN.{length, length-append}
 use Rattle.bits.specs.Bits.{fieldBits}
 use Rattle.bits.proofs.Laws.{length-fieldBits}
 use Rattle.job.specs.Grid.{Grid}
 use Rattle.job.specs.Job.{Job}
 use Rattle.job.specs.Good.{GoodJob}
-use Rattle.job.specs.Packing.{groupBits, concatBits}
+use Rattle.job.specs.Packing.{groupBits}
 use Rattle.job.proofs.TwoWay.Places.{Placed, placed-append}
 use Rattle.rules.specs.Prices.{techOf}
 use Rattle.rules.specs.Standings.{Standing, joinedBy, Stands}
@@ -31,7 +31,7 @@ use Rattle.plan.proofs.JoinRead.{joinFields, joinBits, legal-walk}
 
 -- the bits of two lists of entries
 pub entries-append : (g : Grid) (xs ys : List Entry) → entryBits g (xs ++ ys) ≡ entryBits g xs ++ entryBits g ys
-unfolding concatBits
+unfolding flatMap
 entries-append g [] ys = refl
 entries-append g (x ∷ xs) ys = rw (entries-append g xs ys, append-assoc)
 

@@ -8,7 +8,7 @@ use Prim.Native.Nat.{ℕ, _+_, _*_, _<_}
 use native.Mathlib.Omega.{arith}
 use mathlib.Core.Path.{_≡_, refl, sym, _∙_}
 use mathlib.Core.Logic.{_↔_, Iff·rfl}
-use mathlib.Core.List.{List, [], _∷_, _++_}
+use mathlib.Core.List.{List, [], _∷_, _++_, flatMap}
 use mathlib.Core.Bool.{Bool, true, false}
 use lib.ListN.{length, length-append}
 use lib.Dec.{T, lit<}
@@ -18,7 +18,7 @@ use Rattle.job.specs.Grid.{Grid, vertices, vertexNumber}
 use Rattle.job.specs.Job.{Job}
 use Rattle.job.specs.Good.{GoodJob}
 use Rattle.job.specs.Reading.{good, vertexAt}
-use Rattle.job.specs.Packing.{groupBits, concatBits}
+use Rattle.job.specs.Packing.{groupBits}
 use Rattle.job.proofs.Tests.{tests}
 use Rattle.job.proofs.Binds.{steps}
 use Rattle.job.proofs.Grids.{below, below-inside}
@@ -45,7 +45,7 @@ joinFields g start moves = (3, layerOf g start) ∷ (8, rowOf g start) ∷ (8, c
 
 -- the bits of a join after its flag
 unfoldable pub joinBits : Grid → (start : ℕ) → (moves : List ℕ) → (cost : ℕ) → List ℕ
-joinBits g start moves cost = groupBits (joinFields g start moves) ++ (concatBits (fieldBits 2) moves ++ fieldBits 40 cost)
+joinBits g start moves cost = groupBits (joinFields g start moves) ++ (flatMap (fieldBits 2) moves ++ fieldBits 40 cost)
 
 -- a start with its count takes 39 bits
 start-bits : (g : Grid) (start : ℕ) (moves : List ℕ) → length (groupBits (joinFields g start moves)) ≡ 39
@@ -62,7 +62,7 @@ length-join g start moves cost =
 join-placed : (B : List ℕ) (at : ℕ) (g : Grid) (start : ℕ) (moves : List ℕ) (cost : ℕ)
     → Placed B at (joinBits g start moves cost)
     ↔ (Placed B at (groupBits (joinFields g start moves))
-    × (Placed B (at + 39) (concatBits (fieldBits 2) moves) × Placed B (at + 39 + 2 * length moves) (fieldBits 40 cost)))
+    × (Placed B (at + 39) (flatMap (fieldBits 2) moves) × Placed B (at + 39 + 2 * length moves) (fieldBits 40 cost)))
 unfolding joinBits
 join-placed B at g start moves cost = simp (placed-append, start-bits, concat-bits (fieldBits 2) 2 (length-fieldBits 2)) Iff·rfl
 

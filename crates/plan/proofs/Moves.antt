@@ -12,7 +12,7 @@ use native.Mathlib.Nat.{add-zero}
 use native.Mathlib.Omega.{arith}
 use mathlib.Core.Path.{_≡_, refl, sym, ap, subst, _∙_}
 use mathlib.Core.Logic.{_↔_}
-use mathlib.Core.List.{List, [], _∷_}
+use mathlib.Core.List.{List, [], _∷_, flatMap}
 use mathlib.Core.Bool.{Bool, true, false}
 use lib.ListN.{length, drop}
 use borrow.Author.Tests.{ne-eqb}
@@ -20,7 +20,6 @@ use lib.Dec.{T, eqb, leb→le, le→leb}
 use Rattle.bits.specs.Bits.{field, whole, fieldBits, AllBelow}
 use Rattle.bits.proofs.Laws.{length-fieldBits, field-below, field-split, field-here}
 use Rattle.job.specs.Reading.{good}
-use Rattle.job.specs.Packing.{concatBits}
 use Rattle.job.proofs.Binds.{steps}
 use Rattle.job.proofs.TwoWay.Places.{Placed, placed, placed-nil, placed-append, placed-whole}
 use Rattle.paths.specs.Systems.{Legal}
@@ -81,7 +80,7 @@ judged-good at last unjoined (legal m) made =
 
 -- the bits of moves stand there, they are so many, they walk from p, and they are a route
 pub record MovesAt (B : List ℕ) (t : Tech) (view : View) (unjoined : List ℕ) (n at : ℕ) (p : Place) (moved : Moved) : Type 0 where
-  pub stand : Placed B at (concatBits (fieldBits 2) (moved .moves))
+  pub stand : Placed B at (flatMap (fieldBits 2) (moved .moves))
   pub count : length (moved .moves) ≡ n
   pub walks : walk t view p (moved .moves) ≡ walked (moved .last) (moved .sum)
   pub route : 1 ≤ n → RouteFrom (system t view unjoined) p (moved .moves) (moved .sum .cost)
@@ -118,7 +117,7 @@ module _ (B : List ℕ) (bits : AllBelow 2 B) (t : Tech) (view : View) (unjoined
   more-good : (n at : ℕ) (p : Place) (moved : Moved) → readMoves B t view unjoined (suc n) at p ≡ good moved
       → ((q : Place) (rest : Moved) → readMoves B t view unjoined n (at + 2) q ≡ good rest → MovesAt B t view unjoined n (at + 2) q rest)
       → MovesAt B t view unjoined (suc n) at p moved
-  unfolding withMove withMade concatBits
+  unfolding withMove withMade flatMap
   more-good n at p moved e rest-good =
       let (w, (made, (is, ends), (rest, read, same))) = more-read n at p moved .0 e in
       let m = field B at 2 in
@@ -126,7 +125,7 @@ module _ (B : List ℕ) (bits : AllBelow 2 B) (t : Tech) (view : View) (unjoined
       let next-good = rest-good (made .next) rest read in
       let next : at + length (fieldBits 2 m) ≡ at + 2 = rw length-fieldBits in
       rw (← same) (record {
-        stand = placed-append B at (fieldBits 2 m) (concatBits (fieldBits 2) (rest .moves)) .1 (here .0, rw next (next-good .stand));
+        stand = placed-append B at (fieldBits 2 m) (flatMap (fieldBits 2) (rest .moves)) .1 (here .0, rw next (next-good .stand));
         count = ap suc (next-good .count);
         walks = walk-on t view p m (rest .moves) made is (next-good .walks);
         route = λ h. route-of n at p m made rest (here .1) is ends read next-good;
@@ -135,7 +134,7 @@ module _ (B : List ℕ) (bits : AllBelow 2 B) (t : Tech) (view : View) (unjoined
   -- moves that are read as good
   pub moves-good : (n at : ℕ) (p : Place) (moved : Moved) → readMoves B t view unjoined n at p ≡ good moved
       → MovesAt B t view unjoined n at p moved
-  unfolding readMoves concatBits walk
+  unfolding readMoves flatMap walk
   moves-good zero at p moved e =
       let same : _≡_ {A = Moved} (record { moves = []; last = p; sum = nothingYet }) moved = cc in
       rw (← same) (record { stand = placed-nil B at; count = refl; walks = refl; route = λ h. absurd (omega arith) })
@@ -143,15 +142,15 @@ module _ (B : List ℕ) (bits : AllBelow 2 B) (t : Tech) (view : View) (unjoined
 
   -- one move of a route, where the rest is read as good
   more-route : (at : ℕ) (p q : Place) (m c : ℕ) (ms : List ℕ) {last : Place} {sum : Sum} → Legal (system t view unjoined) p m c q
-      → member (q .vertex) unjoined ≡ eqb (length ms) 0 → Placed B at (concatBits (fieldBits 2) (m ∷ ms))
+      → member (q .vertex) unjoined ≡ eqb (length ms) 0 → Placed B at (flatMap (fieldBits 2) (m ∷ ms))
       → walk t view p (m ∷ ms) ≡ walked last sum
-      → ((rest : Sum) → Placed B (at + 2) (concatBits (fieldBits 2) ms) → walk t view q ms ≡ walked last rest
+      → ((rest : Sum) → Placed B (at + 2) (flatMap (fieldBits 2) ms) → walk t view q ms ≡ walked last rest
       → readMoves B t view unjoined (length ms) (at + 2) q ≡ good (record { moves = ms; last = last; sum = rest }))
       → readMoves B t view unjoined (length (m ∷ ms)) at p ≡ good (record { moves = m ∷ ms; last = last; sum = sum })
-  unfolding concatBits priced withMove
+  unfolding flatMap priced withMove
   more-route at p q m c ms {last} {sum} move ends stand walks rest-good =
       let first = walk-first t view p m ms walks in
-      let both = placed-append B at (fieldBits 2 m) (concatBits (fieldBits 2) ms) .0 stand in
+      let both = placed-append B at (fieldBits 2 m) (flatMap (fieldBits 2) ms) .0 stand in
       let here = field-placed B at bits 2 m (omega arith) .0 (both .0, move .known) in
       let next : at + length (fieldBits 2 m) ≡ at + 2 = rw length-fieldBits in
       let is = first .is in
@@ -185,7 +184,7 @@ module _ (B : List ℕ) (bits : AllBelow 2 B) (t : Tech) (view : View) (unjoined
 
   -- the moves of a route are read as good
   pub route-read : {p : Place} {ms : List ℕ} {c : ℕ} → RouteFrom (system t view unjoined) p ms c → (at : ℕ) {last : Place} {sum : Sum}
-      → Placed B at (concatBits (fieldBits 2) ms) → walk t view p ms ≡ walked last sum
+      → Placed B at (flatMap (fieldBits 2) ms) → walk t view p ms ≡ walked last sum
       → readMoves B t view unjoined (length ms) at p ≡ good (record { moves = ms; last = last; sum = sum })
   route-read (RouteFrom.enters {s = p} {t = q} {m = m} {p = price} move goal) at stand walks =
       more-route at p q m price [] move goal stand walks (λ rest st w. none-read (at + 2) q rest w)

@@ -7,7 +7,7 @@ use native.Mathlib.Nat.{add-zero}
 use native.Mathlib.Omega.{arith}
 use mathlib.Core.Path.{_≡_, refl, sym, ap, _∙_}
 use mathlib.Core.Logic.{_⊎_, inl, inr}
-use mathlib.Core.List.{List, [], _∷_}
+use mathlib.Core.List.{List, [], _∷_, flatMap}
 use lib.ListN.{length, length-append}
 use lib.Dec.{T}
 use Rattle.bits.specs.Bits.{field, whole, fieldBits, AllBelow}
@@ -16,7 +16,6 @@ use Rattle.job.specs.Grid.{Grid}
 use Rattle.job.specs.Job.{Job}
 use Rattle.job.specs.Good.{GoodJob}
 use Rattle.job.specs.Reading.{Read, good, _>>=_, _>>_}
-use Rattle.job.specs.Packing.{concatBits}
 use Rattle.job.proofs.Binds.{rule-good, then-good, bind-good}
 use Rattle.job.proofs.TwoWay.Places.{Placed, placed-nil, placed-append}
 use Rattle.rules.specs.Prices.{techOf}
@@ -100,14 +99,14 @@ module _ (B : List ℕ) (bits : AllBelow 2 B) {j : Job} (good-j : GoodJob j) (k 
   -- no record, where no pin is unjoined
   none-good : (s : Standing) (totals : Totals) (at : ℕ) (p : Progress) → s .unjoined ≡ []
       → doneAt s totals at ≡ p → NetAt B j k s at p
-  unfolding concatBits
+  unfolding flatMap
   none-good s totals at p all same =
       rw (← same) (record { entries = allJoined all refl; stand = placed-nil B at; next = sym (add-zero at) })
 
   -- one record that says none
   ended-good : (s : Standing) (totals : Totals) (at : ℕ) (p : Progress) → (s .unjoined ≡ [] → ⊥) → Placed B at (fieldBits 1 0)
       → endedAt k s totals at ≡ p → NetAt B j k s at p
-  unfolding concatBits recordBits
+  unfolding flatMap recordBits
   ended-good s totals at p some here same =
       rw (← same) (record {
         entries = gaveUp some refl refl;
@@ -118,7 +117,7 @@ module _ (B : List ℕ) (bits : AllBelow 2 B) {j : Job} (good-j : GoodJob j) (k 
   -- a join and what follows it
   joined-good : (s : Standing) (at : ℕ) (p : Progress) (read : JoinRead) (rest : Progress) → Placed B at (fieldBits 1 1) → JoinAt B j k s (at + 1) read
       → NetAt B j k (joinedStanding k s read) (read .next) rest → before (joinedEntry k s read) rest ≡ p → NetAt B j k s at p
-  unfolding concatBits before
+  unfolding flatMap before
   joined-good s at p read rest here one after same =
       let g = j .grid in
       let start = read .start in
@@ -175,7 +174,7 @@ module _ (B : List ℕ) (bits : AllBelow 2 B) {j : Job} (good-j : GoodJob j) (k 
   -- no entries
   none-read : (n : ℕ) (s : Standing) (totals : Totals) (at : ℕ) → s .unjoined ≡ []
       → readNet B j k n s totals at ≡ good (readTo (j .grid) at [] (s .metal) (withNet totals))
-  unfolding readNet unlessJoined concatBits
+  unfolding readNet unlessJoined flatMap
   none-read zero s totals at all = rw add-zero
   none-read (suc n) s totals at all = rw (all, add-zero)
 
@@ -191,7 +190,7 @@ module _ (B : List ℕ) (bits : AllBelow 2 B) {j : Job} (good-j : GoodJob j) (k 
   ended-read : (n : ℕ) (s : Standing) (totals : Totals) (at : ℕ) → (s .unjoined ≡ [] → ⊥) → length (s .unjoined) ≤ n
       → Placed B at (entryBits (j .grid) (record { net = k; before = s; written = none } ∷ []))
       → readNet B j k n s totals at ≡ good (readTo (j .grid) at (record { net = k; before = s; written = none } ∷ []) (s .metal) totals)
-  unfolding byFlag concatBits recordBits
+  unfolding byFlag flatMap recordBits
   ended-read zero s totals at some few stand = absurd (omega (arith, some-left (s .unjoined) some))
   ended-read (suc n) s totals at some few stand =
       let here = field-placed B at bits 1 0 (omega arith) .0 (placed-append B at (fieldBits 1 0) [] .0 stand .0, omega arith) in
@@ -204,7 +203,7 @@ module _ (B : List ℕ) (bits : AllBelow 2 B) {j : Job} (good-j : GoodJob j) (k 
       → ((n at : ℕ) → Stands (techOf j) after → length (after .unjoined) ≤ n → Placed B at (entryBits (j .grid) es)
       → readNet B j k n after (withJoin totals (l .sum)) at ≡ good (readTo (j .grid) at es metal end))
       → readNet B j k n s totals at ≡ good (readTo (j .grid) at (record { net = k; before = s; written = join start moves cost } ∷ es) metal end)
-  unfolding byFlag concatBits before
+  unfolding byFlag flatMap before
   joined-read zero s totals at l apart few stand rest-read = absurd (omega (arith, legal-fewer good-j k s apart l))
   joined-read (suc n) s totals at {after} {start} {cost} {moves} {es} {metal} {end} l apart few stand rest-read =
       let g = j .grid in

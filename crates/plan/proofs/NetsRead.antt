@@ -7,14 +7,13 @@ use native.Mathlib.Nat.{add-zero}
 use native.Mathlib.Omega.{arith}
 use mathlib.Core.Path.{_≡_, refl, sym}
 use mathlib.Core.Logic.{_↔_, Iff·rfl}
-use mathlib.Core.List.{List, [], _∷_, _++_}
+use mathlib.Core.List.{List, [], _∷_, _++_, flatMap}
 use lib.ListN.{length, length-append}
 use Rattle.bits.specs.Bits.{AllBelow}
 use Rattle.job.specs.Lists.{All}
 use Rattle.job.specs.Job.{Net, Job}
 use Rattle.job.specs.Good.{GoodJob}
 use Rattle.job.specs.Reading.{good, _>>=_}
-use Rattle.job.specs.Packing.{concatBits}
 use Rattle.job.proofs.Binds.{steps}
 use Rattle.job.proofs.TwoWay.Places.{Placed, placed-nil, placed-append}
 use Rattle.rules.specs.Views.{pinsOf}
@@ -76,7 +75,7 @@ module _ (B : List ℕ) (bits : AllBelow 2 B) {j : Job} (good-j : GoodJob j) whe
   -- the records of nets that are read as good
   pub nets-good : (k : ℕ) (nets : List Net) (metal : List (List ℕ)) (totals : Totals) (at : ℕ) (p : Progress) → Begin nets
       → readNets B j k nets metal totals at ≡ good p → NetsAt B j k nets metal at p
-  unfolding readNets All concatBits
+  unfolding readNets All flatMap
   nets-good k [] metal totals at p begin e =
       let same : _≡_ {A = Progress} (record { entries = []; metal = metal; totals = totals; at = at }) p = cc in
       rw (← same) (record { entries = noNets; stand = placed-nil B at; next = sym (add-zero at) })
@@ -92,7 +91,7 @@ module _ (B : List ℕ) (bits : AllBelow 2 B) {j : Job} (good-j : GoodJob j) whe
   pub nets-read : {k : ℕ} {nets : List Net} {metal : List (List ℕ)} {es : List Entry} (d : JobEntries j k nets metal es) → Begin nets
       → (totals : Totals) (at : ℕ) → Placed B at (entryBits (j .grid) es)
       → readNets B j k nets metal totals at ≡ good (readTo (j .grid) at es (jobMetal d) (jobTotals d totals))
-  unfolding jobMetal jobTotals readNets All concatBits _>>=_
+  unfolding jobMetal jobTotals readNets All flatMap _>>=_
   nets-read (noNets {k = k} {metal = metal}) begin totals at stand = rw add-zero
   nets-read (nextNet {k = k} {net = net} {nets = nets} {metal = metal} {own = own} {others = others} n r is) begin totals at stand =
       let pins = pinsOf (j .grid) net in

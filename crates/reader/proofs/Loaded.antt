@@ -17,7 +17,7 @@ use Rattle.job.specs.Lists.{All}
 use Rattle.job.specs.Grid.{Grid, Vertex, vertexNumber}
 use Rattle.job.specs.Job.{Obstacle, Box, Net, Job}
 use Rattle.job.specs.Reading.{good, jobHead, goodBox, netsAt, netWidth, netsWidth, readJob}
-use Rattle.job.specs.Packing.{concatBits, vertexBits, boxBits, netBits}
+use Rattle.job.specs.Packing.{vertexBits, boxBits, netBits}
 use Rattle.job.specs.Good.{GoodGrid, GoodPin, GoodNet}
 use Rattle.reader.specs.Loading.{pinNumbers, boxNumbers, boxesNumbers, netLoaded, NetRoom}
 use Rattle.job.proofs.TwoWay.{rules-hold, netAt, net-at}
@@ -28,22 +28,22 @@ use Rattle.job.proofs.TwoWay.Nets.{net-placed, net-head}
 
 module _ (B : List ℕ) (bits : AllBelow 2 B) (g : Grid) (small : GoodGrid g) where
   -- pins whose bits stand there are loaded as their vertex numbers
-  pins-loaded : (obstacles : List Obstacle) (at : ℕ) (vs : List Vertex) → Placed B at (concatBits vertexBits vs) → All (GoodPin g obstacles) vs
+  pins-loaded : (obstacles : List Obstacle) (at : ℕ) (vs : List Vertex) → Placed B at (flatMap vertexBits vs) → All (GoodPin g obstacles) vs
       → pinNumbers B g (length vs) at ≡ map (vertexNumber g) vs
-  unfolding concatBits All pinNumbers
+  unfolding flatMap All pinNumbers
   pins-loaded obstacles at [] p h = refl
   pins-loaded obstacles at (v ∷ vs) p h =
-      let (first, rest) = placed-append B at (vertexBits v) (concatBits vertexBits vs) .0 p in
+      let (first, rest) = placed-append B at (vertexBits v) (flatMap vertexBits vs) .0 p in
       let here = vertex-placed B bits at v .0 (first, inside-fits g small v (h .0 .inside)) .1 in
       rw (here, pins-loaded obstacles (at + 19) vs (rw vertex-bits at rest) (h .1))
 
   -- boxes whose bits stand there are loaded as their numbers, one box after the other
-  boxes-loaded : (at : ℕ) (bs : List Box) → Placed B at (concatBits boxBits bs) → All (λ b. T (goodBox g b)) bs
+  boxes-loaded : (at : ℕ) (bs : List Box) → Placed B at (flatMap boxBits bs) → All (λ b. T (goodBox g b)) bs
       → boxesNumbers B (length bs) at ≡ flatMap boxNumbers bs
-  unfolding concatBits All boxesNumbers flatMap
+  unfolding flatMap All boxesNumbers flatMap
   boxes-loaded at [] p h = refl
   boxes-loaded at (b ∷ bs) p h =
-      let (first, rest) = placed-append B at (boxBits b) (concatBits boxBits bs) .0 p in
+      let (first, rest) = placed-append B at (boxBits b) (flatMap boxBits bs) .0 p in
       let here = box-placed B bits at b .0 (first, box-fits g small b (h .0)) .1 in
       rw (here, boxes-loaded (at + 38) bs (rw box-bits at rest) (h .1))
 

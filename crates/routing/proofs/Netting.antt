@@ -5,7 +5,7 @@
 --     netting-done                  no net is left
 use Prim.Native.Nat.{ℕ, zero, suc, _+_, _-_, _*_, _≤_, _<_}
 use mathlib.Core.Path.{_≡_, refl, sym, ap, subst, _∙_}
-use mathlib.Core.List.{List, [], _∷_, _++_, append-assoc, append-nil}
+use mathlib.Core.List.{List, [], _∷_, _++_, append-assoc, append-nil, flatMap}
 use native.Mathlib.Omega.{arith}
 use lib.ListN.{length, take, replicate, length-append}
 use Rattle.bits.specs.Bits.{bitsOf, putBits}
@@ -13,7 +13,6 @@ use Rattle.bits.proofs.Laws.{putBits-append}
 use Rattle.job.specs.Lists.{All}
 use Rattle.job.specs.Grid.{vertices}
 use Rattle.job.specs.Job.{Net, Job}
-use Rattle.job.specs.Packing.{concatBits}
 use Rattle.job.specs.Reading.{good, readJob}
 use Rattle.job.specs.Structs.{gridOf}
 use Rattle.reader.specs.Loading.{netLoaded, pinsLoaded, boxesLoaded}
@@ -92,7 +91,7 @@ module _ (bytes : List ℕ) (tech : TechStruct) (occupants found planFound : Lis
   -- before the first net
   pub netting-begun : {count start : ℕ} {pins boxes : List ℕ} → NetsHeld bytes tech occupants found count start → length pins ≡ 16 → length boxes ≡ 90
       → {totals : TotalsStruct} → totals ≡ record { cost = 0; added = 0; penalties = 0; joined = 0 } → Netting found pins boxes planFound start 0 totals 0 count
-  unfolding routing noTotals withEntries concatBits putBits
+  unfolding routing noTotals withEntries flatMap putBits
   netting-begun {count} {start} held sixteen ninety zero-totals =
       rw zero-totals (record {
         count = count;

@@ -5,7 +5,7 @@
 --     join-told, recording-on        the record is a join, and the rest follows
 use Prim.Native.Nat.{ℕ, zero, suc, _+_, _-_, _*_, _^_, _≤_, _<_}
 use mathlib.Core.Path.{_≡_, refl, sym, ap, subst, _∙_}
-use mathlib.Core.List.{List, [], _∷_, _++_, append-assoc, append-nil}
+use mathlib.Core.List.{List, [], _∷_, _++_, append-assoc, append-nil, flatMap}
 use mathlib.Core.Bool.{true}
 use native.Mathlib.Omega.{arith}
 use lib.ListN.{length, length-append}
@@ -13,7 +13,6 @@ use Rattle.bits.specs.Bits.{fieldBits, putBits}
 use Rattle.bits.proofs.Laws.{length-fieldBits, putBits-append}
 use Rattle.job.specs.Grid.{Grid}
 use Rattle.job.specs.Job.{Job}
-use Rattle.job.specs.Packing.{concatBits}
 use Rattle.job.proofs.TwoWay.Places.{widths, length-groupBits}
 use Rattle.job.proofs.TwoWay.Widths.{concat-bits}
 use Rattle.rules.specs.Views.{View, viewOf}
@@ -58,7 +57,7 @@ entries-put : (g : Grid) (es : List Entry) (e : Entry) (found : List ℕ) (from 
     → plan ≡ putBits found from (entryBits g es) → bits ≡ from + length (entryBits g es) → longer ≡ putBits plan bits (recordBits g (e .written))
     → (longer ≡ putBits found from (entryBits g (es ++ (e ∷ []))))
     × (bits + length (recordBits g (e .written)) ≡ from + length (entryBits g (es ++ (e ∷ []))))
-unfolding concatBits
+unfolding flatMap
 entries-put g es e found from put next more =
     let own : entryBits g (es ++ (e ∷ [])) ≡ entryBits g es ++ recordBits g (e .written) =
     entries-append g es (e ∷ []) ∙ ap (λ (bs : List ℕ). entryBits g es ++ bs) (append-nil (recordBits g (e .written))) in

@@ -5,14 +5,13 @@
 --     recording-joined, recording-done   every pin is joined; no record is left
 use Prim.Native.Nat.{ℕ, suc, _+_, _-_, _*_, _≤_}
 use mathlib.Core.Path.{_≡_, refl, ap, _∙_}
-use mathlib.Core.List.{List, [], _++_, append-nil}
+use mathlib.Core.List.{List, [], _++_, append-nil, flatMap}
 use mathlib.Core.Bool.{false}
 use native.Mathlib.Omega.{arith}
 use lib.ListN.{length}
 use Rattle.bits.specs.Bits.{putBits}
 use Rattle.job.specs.Grid.{vertices}
 use Rattle.job.specs.Job.{Job}
-use Rattle.job.specs.Packing.{concatBits}
 use Rattle.rules.specs.Views.{View}
 use Rattle.rules.specs.Standings.{Standing}
 use Rattle.rules.specs.Routings.{Entry, withNet, Routed, routeNet}
@@ -57,7 +56,7 @@ module _ (tech : TechStruct) (view : View) (net : ℕ) (pins : List ℕ) (count 
 
   -- before the first record
   pub recording-begun : Bounded (16 * net) before from → Recording (first .spots) (first .codes) found before from count
-  unfolding withEntries concatBits putBits
+  unfolding withEntries flatMap putBits
   recording-begun b =
       let none : 16 * net + (count - count) ≡ 16 * net = omega arith in
       record {

@@ -12,7 +12,7 @@ use mathlib.Core.Bool.{Bool, true, false}
 use mathlib.Core.Logic.{_⊎_, inl, inr}
 use native.Mathlib.Omega.{arith}
 use denote.Enum.Declared.{tagOf}
-use Rattle.job.specs.Structs.{layerStruct}
+use Rattle.job.specs.Grid.{Grid}
 use Rattle.job.specs.declared.groups.Layer.{Layer as LayerStruct}
 use Rattle.paths.specs.Systems.{blocked, to}
 use Rattle.paths.specs.Distances.{Cost, fin, inf}
@@ -20,9 +20,9 @@ use Rattle.rules.specs.Tracks.{Entered, outside, at, entered}
 use Rattle.rules.specs.Views.{View}
 use Rattle.rules.specs.Segments.{Direction, Kind, along, down, up, kindOf, Segment, Place, back, grown, grow}
 use Rattle.rules.specs.Prices.{Tech, lineOf, entering}
-use Rattle.rules.specs.Overheads.{Overhead, nothing, lengthened, penalised, forbidden, overheadOf}
+use Rattle.rules.specs.Overheads.{Overhead, forbidden, owes, overheadOf}
 use Rattle.rules.specs.Steps.{Stepped, illegal, leaving, stepping, bySegment, ifPriced, into, step, priced}
-use Rattle.rules.specs.Structs.{kindBy, Via, overheadBy, IsOverhead, overheadCost, leavingCost, owedCost, byOwed, entryBy, entryAt, entryOf}
+use Rattle.rules.specs.Structs.{kindBy, Via, overheadBy, IsOverhead, overheadCost, overheadPrice, owedCost, byOwed, entryBy, entryAt, entryOf}
 use Rattle.rules.specs.declared.overhead.Overhead.{Overhead as OverheadEnum}
 use Rattle.rules.specs.declared.overhead.Overhead.the-variants.{Nothing, Lengthened, Penalised, Forbidden}
 use Rattle.rules.specs.declared.track.Kind.{Kind as KindEnum}
@@ -41,7 +41,7 @@ via-told Up e = tt
 
 -- a via leaves the segment
 pub via-leaves : (t : Tech) (view : View) (p : Place) (k : Kind) (w enter : ℕ) → Via k
-    → bySegment t view p k w enter ≡ leaving t (p .vertex) w enter (overheadOf t view (p .vertex) (p .segment))
+    → bySegment t view p k w enter ≡ leaving w enter (overheadOf t view (p .vertex) (p .segment))
 unfolding Via bySegment
 via-leaves t view p (along d) w enter none = absurd none
 via-leaves t view p down w enter via = refl
@@ -92,28 +92,26 @@ module _ (t : Tech) (view : View) (p : Place) (m : ℕ) where
           rw (step-entry, opens, stepOf, kind, bySegment, ← is, e, stepping, priced, none) refl
 
     -- a via
-    pub priced-leaving : bySegment t view p (kindOf m) w enter ≡ leaving t (p .vertex) w enter (overheadOf t view (p .vertex) (p .segment))
+    pub priced-leaving : bySegment t view p (kindOf m) w enter ≡ leaving w enter (overheadOf t view (p .vertex) (p .segment))
         → byOwed w enter (owedCost t view p) ≡ priced (step t view p m)
-    unfolding stepOf owedCost byOwed leavingCost leaving priced
+    unfolding stepOf owedCost byOwed overheadPrice leaving priced
     priced-leaving is = rw (step-entry, opens, stepOf, is) (by (overheadOf t view (p .vertex) (p .segment)))
       where
-        by : (o : Overhead) → byOwed w enter (leavingCost t (p .vertex) o) ≡ priced (leaving t (p .vertex) w enter o)
-        by nothing = refl
-        by (lengthened missing laid) = refl
-        by penalised = refl
+        by : (o : Overhead) → byOwed w enter (overheadPrice o) ≡ priced (leaving w enter o)
         by forbidden = refl
+        by (owes price laid added penalties) = refl
 
     pub priced-via : Via (kindOf m) → byOwed w enter (owedCost t view p) ≡ priced (step t view p m)
     priced-via via = priced-leaving (via-leaves t view p (kindOf m) w enter via)
 
 -- what a via owes, from the code's form
-pub owed-told : (t : Tech) (view : View) (v : ℕ) {line : LayerStruct} (r : OverheadEnum) {o : Overhead} → line ≡ layerStruct (lineOf t v)
-    → IsOverhead (t .grid) view v r o → overheadCost line r ≡ leavingCost t v o
-unfolding overheadCost leavingCost overheadBy
-owed-told t view v Nothing is owes = rw (← owes .same) refl
-owed-told t view v (Lengthened n e) is owes = rw (← owes .same, is) refl
-owed-told t view v Penalised is owes = rw (← owes .same, is) refl
-owed-told t view v Forbidden is owes = rw (← owes .same) refl
+pub owed-told : (line : LayerStruct) {g : Grid} {view : View} {v : ℕ} (r : OverheadEnum) {o : Overhead}
+    → IsOverhead (line .wire) (line .area) g view v r o → overheadCost line r ≡ overheadPrice o
+unfolding overheadCost overheadPrice overheadBy
+owed-told line Nothing told = rw (← told .same) refl
+owed-told line (Lengthened n e) told = rw (← told .same) refl
+owed-told line Penalised told = rw (← told .same) refl
+owed-told line Forbidden told = rw (← told .same) refl
 
 -- the vertex that an entry names is entered, at the price of entering it
 pub entry-parts : (t : Tech) (view : View) (v m : ℕ) {w enter : ℕ} → entryOf t view v m ≡ Open w enter

@@ -40,8 +40,8 @@ module _ {j : Job} (good : GoodJob j) where
     where
       by : (w : Walked) → walk (techOf j) (viewOf j k (s .metal)) (startAt start) moves ≡ w → All (Written j) (afterJoin k s totals rest w .entries)
       by stuck is = tt
-      by (walked last sum) is =
-          after (joinedBy k s (last .vertex) sum) (withJoin totals sum)
+      by (walked last made) is =
+          after (joinedBy k s (last .vertex) made) (withJoin totals made)
           (joined-apart k s (good-tech good) apart (join-route (good-tech good) (viewOf j k (s .metal)) apart e) is)
 
   -- the records of a net

@@ -5,21 +5,18 @@
 use Prim.Native.Nat.{ℕ, zero, suc, _<_}
 use mathlib.Core.Path.{_≡_, refl}
 use mathlib.Core.List.{List, [], _∷_, _++_}
-use mathlib.Core.Bool.{Bool, true, false, cond}
-use lib.ListN.{length}
-use lib.Dec.{eqb}
+use mathlib.Core.Bool.{Bool, true, false}
 use Rattle.job.specs.Lists.{All}
 use Rattle.job.specs.Grid.{Grid, vertices}
-use Rattle.job.specs.Job.{closedPrice}
 use Rattle.paths.specs.Distances.{Cost, fin, inf}
 use Rattle.rules.specs.Tracks.{Entered, outside, at, entered}
 use Rattle.rules.specs.Views.{View}
-use Rattle.rules.specs.Segments.{Direction, low, high, Kind, along, down, up, kindOf, Segment, fresh, running, paid, paidToward, Place, Grown, back, grown}
+use Rattle.rules.specs.Segments.{Direction, Kind, along, down, up, kindOf, Segment, Place, Grown, back, grown}
 use Rattle.rules.specs.Prices.{Tech, entering}
-use Rattle.rules.specs.Overheads.{clear, toward, onFrom, clearRun, Overhead, nothing, lengthened, penalised, forbidden}
-use Rattle.rules.specs.Overheads.{otherwise, lengthenedBy, overheadOf}
+use Rattle.rules.specs.Overheads.{clear, toward, onFrom, clearRun, Overhead, forbidden, owes, overheadOf}
 use Rattle.rules.specs.Steps.{Made, Stepped, illegal, legal, leaving, stepping, bySegment, ifPriced, into, step}
 use Rattle.rules.proofs.Neighbours.{entered-below}
+use Rattle.rules.proofs.Overheads.{overhead-holds}
 
 -- a claim about two lists, one after the other
 pub all-append : {A : Type 0} (P : A → Type 0) (xs ys : List A) → All P xs → All P ys → All P (xs ++ ys)
@@ -52,10 +49,8 @@ run-free g view d (suc k) {v} h = by (entered g v (toward d)) refl (λ w on. run
 
 -- what an overhead lays
 laidBy : Overhead → List ℕ
-laidBy nothing = []
-laidBy (lengthened missing laid) = laid
-laidBy penalised = []
 laidBy forbidden = []
+laidBy (owes price laid added penalties) = laid
 
 -- what a move lays
 laidIn : Stepped → List ℕ
@@ -66,40 +61,16 @@ module _ (t : Tech) (view : View) where
   abbrev AllFree : List ℕ → Type 0
   AllFree vs = All (Free (t .grid) view) vs
 
-  -- the area penalty lays nothing
-  otherwise-free : (area : ℕ) → AllFree (laidBy (otherwise area))
-  unfolding otherwise laidBy All
-  otherwise-free area = by (eqb area closedPrice)
-    where
-      by : (b : Bool) → AllFree (laidBy (cond b forbidden penalised))
-      by true = tt
-      by false = tt
-
-  -- an extension lays its run
-  lengthened-free : (missing : ℕ) (run : List ℕ) (else : Overhead) → AllFree run → AllFree (laidBy else) → AllFree (laidBy (lengthenedBy missing run else))
-  unfolding lengthenedBy laidBy
-  lengthened-free missing run else h k = by (eqb (length run) missing)
-    where
-      by : (b : Bool) → AllFree (laidBy (cond b (lengthened missing run) else))
-      by true = h
-      by false = k
-
   -- what a via move owes for a segment
   overhead-free : {v : ℕ} (s : Segment) → v < vertices (t .grid) → AllFree (laidBy (overheadOf t view v s))
-  unfolding overheadOf laidBy All
-  overhead-free fresh h =
-      lengthened-free _ _ _ (run-free (t .grid) view high _ h) (lengthened-free _ _ _ (run-free (t .grid) view low _ h) (otherwise-free _))
-  overhead-free (running d n) h = lengthened-free _ _ _ (run-free (t .grid) view d _ h) (otherwise-free _)
-  overhead-free paid h = tt
-  overhead-free (paidToward d) h = tt
+  unfolding laidBy All
+  overhead-free {v} s h = overhead-holds t view v (λ o. AllFree (laidBy o)) tt tt (λ _. tt) (λ d missing few. run-free (t .grid) view d missing h) s
 
   -- a via move lays what its overhead does
-  leaving-free : (v w enter : ℕ) (o : Overhead) → AllFree (laidBy o) → AllFree (laidIn (leaving t v w enter o))
+  leaving-free : (w enter : ℕ) (o : Overhead) → AllFree (laidBy o) → AllFree (laidIn (leaving w enter o))
   unfolding leaving laidBy laidIn All
-  leaving-free v w enter nothing h = h
-  leaving-free v w enter (lengthened missing laid) h = h
-  leaving-free v w enter penalised h = h
-  leaving-free v w enter forbidden h = h
+  leaving-free w enter forbidden h = h
+  leaving-free w enter (owes price laid added penalties) h = h
 
   -- a step lays nothing
   stepping-free : (w enter : ℕ) (r : Grown) → AllFree (laidIn (stepping w enter r))
@@ -111,8 +82,8 @@ module _ (t : Tech) (view : View) where
   segment-free : (p : Place) (k : Kind) (w enter : ℕ) → p .vertex < vertices (t .grid) → AllFree (laidIn (bySegment t view p k w enter))
   unfolding bySegment
   segment-free p (along d) w enter h = stepping-free w enter _
-  segment-free p down w enter h = leaving-free (p .vertex) w enter _ (overhead-free (p .segment) h)
-  segment-free p up w enter h = leaving-free (p .vertex) w enter _ (overhead-free (p .segment) h)
+  segment-free p down w enter h = leaving-free w enter _ (overhead-free (p .segment) h)
+  segment-free p up w enter h = leaving-free w enter _ (overhead-free (p .segment) h)
 
   -- every vertex that a move lays is a clear vertex of the grid
   stepped-free : (p : Place) (m : ℕ) → p .vertex < vertices (t .grid) → AllFree (laidIn (step t view p m))

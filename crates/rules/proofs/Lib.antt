@@ -29,6 +29,7 @@ pub mod Vertices
 pub mod Neighbours
 pub mod Techs
 pub mod Places
+pub mod Overheads
 pub mod Segments
 pub mod Prices
 pub mod Moves

@@ -15,10 +15,11 @@ use Rattle.rules.specs.Tracks.{Entered, outside, at, entered}
 use Rattle.rules.specs.Views.{View}
 use Rattle.rules.specs.Segments.{Kind, along, down, up, kindOf, Place, Grown, back, grown}
 use Rattle.rules.specs.Prices.{Tech, entering}
-use Rattle.rules.specs.Overheads.{Overhead, nothing, lengthened, penalised, forbidden}
+use Rattle.rules.specs.Overheads.{overheadOf}
 use Rattle.rules.specs.Steps.{Made, Stepped, illegal, legal, leaving, stepping, bySegment, ifPriced, into, step, priced}
 use Rattle.rules.specs.Places.{GoodPlace, GoodTech}
 use Rattle.rules.proofs.Neighbours.{entered-below}
+use Rattle.rules.proofs.Overheads.{overhead-holds}
 use Rattle.rules.proofs.Segments.{no-step, move-led}
 use Rattle.rules.proofs.Prices.{entering-fits}
 
@@ -88,12 +89,10 @@ Few illegal = Unit
 Few (legal made) = made .penalties ≤ 1
 
 -- by a via move
-leaving-few : (t : Tech) (v w enter : ℕ) (o : Overhead) → Few (leaving t v w enter o)
+leaving-few : (t : Tech) (view : View) (p : Place) (w enter : ℕ) → Few (leaving w enter (overheadOf t view (p .vertex) (p .segment)))
 unfolding Few leaving
-leaving-few t v w enter nothing = omega arith
-leaving-few t v w enter (lengthened missing laid) = omega arith
-leaving-few t v w enter penalised = omega arith
-leaving-few t v w enter forbidden = tt
+leaving-few t view p w enter =
+    overhead-holds t view (p .vertex) (λ o. Few (leaving w enter o)) (omega arith) tt (λ _. omega arith) (λ _ _ _. omega arith) (p .segment)
 
 -- by a step along the track
 stepping-few : (w enter : ℕ) (r : Grown) → Few (stepping w enter r)
@@ -108,8 +107,8 @@ stepped-few t view p m = by (entered (t .grid) (p .vertex) m)
   where
     bySegments : (k : Kind) (w n : ℕ) → Few (bySegment t view p k w n)
     bySegments (along d) w n = stepping-few w n _
-    bySegments down w n = leaving-few t (p .vertex) w n _
-    bySegments up w n = leaving-few t (p .vertex) w n _
+    bySegments down w n = leaving-few t view p w n
+    bySegments up w n = leaving-few t view p w n
 
     byPrice : (w : ℕ) (x : Cost) → Few (ifPriced x (bySegment t view p (kindOf m) w))
     byPrice w inf = tt

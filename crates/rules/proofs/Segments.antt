@@ -23,11 +23,12 @@ use Rattle.rules.specs.Views.{View}
 use Rattle.rules.specs.Segments.{Direction, Segment, fresh, running, paid, paidToward, Place}
 use Rattle.rules.specs.Segments.{Kind, along, down, up, against, ofLength, Grown, back, grown, notAgainst, grow}
 use Rattle.rules.specs.Prices.{Tech, lineOf}
-use Rattle.rules.specs.Overheads.{Overhead, nothing, lengthened, penalised, forbidden, otherwise, lengthenedBy, overheadOf}
-use Rattle.rules.specs.Structs.{leavingCost, owedCost}
+use Rattle.rules.specs.Overheads.{Overhead, forbidden, owes, overheadOf}
+use Rattle.rules.specs.Structs.{overheadPrice, owedCost}
 use Rattle.rules.specs.Steps.{leaving, stepping, bySegment, priced}
 use Rattle.rules.specs.Places.{GoodSegment, GoodTech}
 use Rattle.rules.proofs.Techs.{least-largest, line-good}
+use Rattle.rules.proofs.Overheads.{overhead-holds}
 
 -- a blocked move leads nowhere
 pub no-step : {c : ℕ} {q : Place} → blocked ≡ to c q → ⊥
@@ -77,40 +78,21 @@ grow-good largest least d (running was n) h e =
 grow-good largest least d paid h e = same-good largest (paidToward d) tt e
 grow-good largest least d (paidToward was) h e = along-good largest was d (paidToward d) tt e
 
--- an overhead that is not closed, by the layer line of the vertex that is left
-OverFits : Layer → Overhead → Type 0
-OverFits line nothing = Unit
-OverFits line (lengthened missing laid) = missing ≤ 15
-OverFits line penalised = line .area ≤ 65534
-OverFits line forbidden = Unit
-
--- the area penalty, where it is not closed
-otherwise-fits : (line : Layer) → line .area < 65536 → OverFits line (otherwise (line .area))
-unfolding OverFits otherwise
-otherwise-fits line h = by (eqb (line .area) closedPrice) refl
-  where
-    by : (b : Bool) → eqb (line .area) closedPrice ≡ b → OverFits line (cond b forbidden penalised)
-    by true e = tt
-    by false e = let ne : line .area ≡ 65535 → ⊥ = eqb-false _ _ e in omega arith
-
--- an extension, where there is room for it
-lengthened-fits : (line : Layer) (missing : ℕ) (run : List ℕ) (else : Overhead) → missing ≤ 15 → OverFits line else
-    → OverFits line (lengthenedBy missing run else)
-unfolding OverFits lengthenedBy
-lengthened-fits line missing run else h r = by (eqb (length run) missing) refl
-  where
-    by : (b : Bool) → eqb (length run) missing ≡ b → OverFits line (cond b (lengthened missing run) else)
-    by true e = h
-    by false e = r
+-- an overhead that is not forbidden has a small price
+OverFits : Overhead → Type 0
+OverFits forbidden = Unit
+OverFits (owes price laid added penalties) = price ≤ 65534
 
 -- what a via move owes for a segment
-overhead-fits : (t : Tech) (view : View) (v : ℕ) (s : Segment) → lineOf t v .minLength ≤ 15 → lineOf t v .area < 65536
-    → OverFits (lineOf t v) (overheadOf t view v s)
-unfolding overheadOf OverFits
-overhead-fits t view v fresh h a = lengthened-fits _ _ _ _ h (lengthened-fits _ _ _ _ h (otherwise-fits _ a))
-overhead-fits t view v (running d n) h a = lengthened-fits _ _ _ _ (omega arith) (otherwise-fits _ a)
-overhead-fits t view v paid h a = tt
-overhead-fits t view v (paidToward d) h a = tt
+overhead-fits : {t : Tech} (view : View) (p : Place) → GoodTech t → p .vertex < vertices (t .grid) → OverFits (overheadOf t view (p .vertex) (p .segment))
+unfolding OverFits
+overhead-fits {t} view p good h =
+    let line = line-good good h in
+    overhead-holds t view (p .vertex) OverFits (omega arith) tt (λ ne. omega (arith, ne, line .area))
+    (λ d missing few.
+    let wire : lineOf t (p .vertex) .wire ≤ 1023 = omega (arith, line .wire) in
+    let least : missing ≤ 15 = omega (arith, few, line .minLength) in
+    le-trans (mul-le-mul wire least) (omega arith)) (p .segment)
 
 -- a move to a vertex and a good segment, with an overhead
 led : (t : Tech) (w enter over : ℕ) (s : Segment) {c : ℕ} {q : Place} → GoodSegment (largestMinLength (t .lines)) s → over ≤ 65534
@@ -136,21 +118,15 @@ stepping-led t w enter least d s {c} {q} h e = by (grow least d s) refl e
     by (grown s′) er ep = led t w enter 0 s′ (grow-good _ least d s h er) (omega arith) ep
 
 -- a via move
-leaving-led : (t : Tech) (v w enter : ℕ) (o : Overhead) {c : ℕ} {q : Place} → lineOf t v .wire ≤ 1023 → OverFits (lineOf t v) o
-    → priced (leaving t v w enter o) ≡ to c q → Led t w enter c q
+leaving-led : (t : Tech) (w enter : ℕ) (o : Overhead) {c : ℕ} {q : Place} → OverFits o → priced (leaving w enter o) ≡ to c q → Led t w enter c q
 unfolding leaving priced OverFits GoodSegment
-leaving-led t v w enter nothing h f e = led t w enter 0 fresh tt (omega arith) e
-leaving-led t v w enter (lengthened missing laid) h f e = led t w enter _ fresh tt (le-trans (mul-le-mul h f) (omega arith)) e
-leaving-led t v w enter penalised h f e = led t w enter _ fresh tt f e
-leaving-led t v w enter forbidden h f e = absurd (no-step e)
+leaving-led t w enter forbidden f e = absurd (no-step e)
+leaving-led t w enter (owes price laid added penalties) f e = led t w enter _ fresh tt f e
 
 -- a via move out of a good place
 via-led : {t : Tech} (view : View) (p : Place) (w enter : ℕ) {c : ℕ} {q : Place} → GoodTech t → p .vertex < vertices (t .grid)
-    → priced (leaving t (p .vertex) w enter (overheadOf t view (p .vertex) (p .segment))) ≡ to c q → Led t w enter c q
-via-led {t} view p w enter good h e =
-    let line = line-good good h in
-    leaving-led t (p .vertex) w enter (overheadOf t view (p .vertex) (p .segment)) (omega (arith, line .wire))
-    (overhead-fits t view (p .vertex) (p .segment) (omega (arith, line .minLength)) (line .area)) e
+    → priced (leaving w enter (overheadOf t view (p .vertex) (p .segment))) ≡ to c q → Led t w enter c q
+via-led {t} view p w enter good h e = leaving-led t w enter (overheadOf t view (p .vertex) (p .segment)) (overhead-fits view p good h) e
 
 -- any move
 pub move-led : {t : Tech} (view : View) (p : Place) (k : Kind) (w enter : ℕ) {c : ℕ} {q : Place} → GoodTech t → p .vertex < vertices (t .grid)
@@ -162,16 +138,9 @@ move-led {t} view p up w enter good h e = via-led view p w enter good h e
 
 -- what a via owes, where it is not forbidden
 pub owed-fits : {t : Tech} (view : View) (p : Place) {n : ℕ} → GoodTech t → p .vertex < vertices (t .grid) → owedCost t view p ≡ fin n → n ≤ 65534
-unfolding owedCost leavingCost OverFits
-owed-fits {t} view p {n} good h e =
-    let line = line-good good h in
-    by (overheadOf t view (p .vertex) (p .segment)) (omega (arith, line .wire))
-    (overhead-fits t view (p .vertex) (p .segment) (omega (arith, line .minLength)) (line .area)) e
+unfolding owedCost overheadPrice OverFits
+owed-fits {t} view p {n} good h e = by (overheadOf t view (p .vertex) (p .segment)) (overhead-fits view p good h) e
   where
-    by : (o : Overhead) → lineOf t (p .vertex) .wire ≤ 1023 → OverFits (lineOf t (p .vertex)) o → leavingCost t (p .vertex) o ≡ fin n → n ≤ 65534
-    by nothing w f is = omega (arith, same-fin refl is)
-    by (lengthened missing laid) w f is =
-        let price : lineOf t (p .vertex) .wire * missing ≡ n = same-fin refl is in
-        rw (← price) (le-trans (mul-le-mul w f) (omega arith))
-    by penalised w f is = omega (arith, same-fin refl is, f)
-    by forbidden w f is = absurd (inf-not-fin is)
+    by : (o : Overhead) → OverFits o → overheadPrice o ≡ fin n → n ≤ 65534
+    by forbidden f is = absurd (inf-not-fin is)
+    by (owes price laid added penalties) f is = omega (arith, same-fin refl is, f)

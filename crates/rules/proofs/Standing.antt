@@ -23,7 +23,8 @@ use Rattle.job.proofs.Grids.{number-below, number-inj, same-refl}
 use Rattle.rules.specs.Views.{View, member, pinsOf}
 use Rattle.rules.specs.Segments.{Place}
 use Rattle.rules.specs.Prices.{Tech, techOf}
-use Rattle.rules.specs.Walks.{startAt, Route, Sum, walked, walk}
+use Rattle.rules.specs.Steps.{Made}
+use Rattle.rules.specs.Walks.{startAt, Route, walked, walk, verticesOf}
 use Rattle.rules.specs.Standings.{Standing, Stands, begun, without, joinedBy}
 use Rattle.rules.specs.Places.{GoodTech}
 use Rattle.rules.proofs.Members.{not-both, neither, member-none, member-here, member-append, member-all, without-one, without-less}
@@ -107,37 +108,37 @@ all-at P (x ∷ xs) (suc k) d h on = all-at P xs k d (h .1) (le-of-suc-le-suc on
 
 -- the walk of a route keeps them apart
 walk-apart : {t : Tech} {view : View} {p : Place} {ms : List ℕ} {c : ℕ} (k : ℕ) (s : Standing) → Stands t s → (w : Walks t view (s .unjoined) p ms c)
-    → Stands t (joinedBy k s (w .last .vertex) (w .sum))
+    → Stands t (joinedBy k s (w .last .vertex) (w .made))
 unfolding joinedBy
 walk-apart {t} {view} k s apart w = record { onGrid = onGrid; noGoal = noGoal }
   where
     end : ℕ
     end = w .last .vertex
 
-    onGrid : (v : ℕ) → member v (s .tree ++ w .sum .vertices) ≡ true → v < vertices (t .grid)
-    onGrid v e = by (member-append v (s .tree) (w .sum .vertices) e)
+    onGrid : (v : ℕ) → member v (s .tree ++ verticesOf (w .made)) ≡ true → v < vertices (t .grid)
+    onGrid v e = by (member-append v (s .tree) (verticesOf (w .made)) e)
       where
-        by : (member v (s .tree) ≡ true) ⊎ (member v (w .sum .vertices) ≡ true) → v < vertices (t .grid)
+        by : (member v (s .tree) ≡ true) ⊎ (member v (verticesOf (w .made)) ≡ true) → v < vertices (t .grid)
         by (inl h) = apart .onGrid v h
-        by (inr h) = member-all (Passed (t .grid) view) v (w .sum .vertices) (w .onGrid) h .onGrid
+        by (inr h) = member-all (Passed (t .grid) view) v (verticesOf (w .made)) (w .onGrid) h .onGrid
 
     entered : (v : ℕ) → (member v (w .way) ≡ true) ⊎ (member v (end ∷ []) ≡ true) → member v (without end (s .unjoined)) ≡ false
     entered v (inl h) = without-less v end (s .unjoined) (member-all (λ x. member x (s .unjoined) ≡ false) v (w .way) (w .passes) h)
     entered v (inr h) = rw (member-here v end h) (without-one end (s .unjoined))
 
-    noGoal : (v : ℕ) → member v (s .tree ++ w .sum .vertices) ≡ true → member v (without end (s .unjoined)) ≡ false
-    noGoal v e = by (member-append v (s .tree) (w .sum .vertices) e)
+    noGoal : (v : ℕ) → member v (s .tree ++ verticesOf (w .made)) ≡ true → member v (without end (s .unjoined)) ≡ false
+    noGoal v e = by (member-append v (s .tree) (verticesOf (w .made)) e)
       where
-        by : (member v (s .tree) ≡ true) ⊎ (member v (w .sum .vertices) ≡ true) → member v (without end (s .unjoined)) ≡ false
+        by : (member v (s .tree) ≡ true) ⊎ (member v (verticesOf (w .made)) ≡ true) → member v (without end (s .unjoined)) ≡ false
         by (inl h) = without-less v end (s .unjoined) (apart .noGoal v h)
         by (inr h) = entered v (member-append v (w .way) (end ∷ []) (rw (w .enters) at h))
 
 -- after a join that is a route they are apart
-pub joined-apart : {t : Tech} {view : View} {start c : ℕ} {ms : List ℕ} {last : Place} {sum : Sum} (k : ℕ) (s : Standing) → GoodTech t → Stands t s
-    → Route t view (s .tree) (s .unjoined) start ms c → walk t view (startAt start) ms ≡ walked last sum → Stands t (joinedBy k s (last .vertex) sum)
-joined-apart {t} {view} {start} {last = last} {sum = sum} k s good apart r e =
+pub joined-apart : {t : Tech} {view : View} {start c : ℕ} {ms : List ℕ} {last : Place} {made : List Made} (k : ℕ) (s : Standing) → GoodTech t → Stands t s
+    → Route t view (s .tree) (s .unjoined) start ms c → walk t view (startAt start) ms ≡ walked last made → Stands t (joinedBy k s (last .vertex) made)
+joined-apart {t} {view} {start} {last = last} {made = made} k s good apart r e =
     let w = route-walk good view (apart .onGrid start (r .onTree)) r in
-    let is : walked (w .last) (w .sum) ≡ walked last sum = sym (w .does) ∙ e in
+    let is : walked (w .last) (w .made) ≡ walked last made = sym (w .does) ∙ e in
     let place : w .last ≡ last = cc in
-    let all : w .sum ≡ sum = cc in
+    let all : w .made ≡ made = cc in
     rw (place, all) at (walk-apart k s apart w)

@@ -6,14 +6,13 @@ use Prim.Native.Nat.{ℕ, _*_}
 use mathlib.Core.Path.{_≡_, refl, sym, ap, _∙_}
 use native.Mathlib.Omega.{arith}
 use Rattle.job.specs.Grid.{Grid}
-use Rattle.job.specs.Structs.{layerStruct}
 use Rattle.job.specs.declared.groups.Layer.{Layer as LayerStruct}
 use Rattle.paths.specs.Distances.{fin, inf}
 use Rattle.paths.proofs.Costs.{inf-not-fin}
 use Rattle.paths.proofs.OnBest.{same-fin}
 use Rattle.rules.specs.Views.{View}
 use Rattle.rules.specs.Segments.{Direction, kindOf, Segment, Place, back, grown, grow}
-use Rattle.rules.specs.Prices.{Tech, lineOf}
+use Rattle.rules.specs.Prices.{Tech}
 use Rattle.rules.specs.Overheads.{clearRun, Overhead}
 use Rattle.rules.specs.Steps.{leaving, stepping, bySegment, step}
 use Rattle.rules.specs.Structs.{segmentOf, laidBy, Whole, noExtension, overheadBy, FewMissing, WholeOverhead, IsOverhead, overheadCost, entryOf, madeBy, steppedBy, WholeStep, IsStepped, IsSteppedAnywhere, byVia}
@@ -49,41 +48,45 @@ module _ (least : ℕ) (d : Direction) (s : Segment) (w enter : ℕ) where
 
 -- ---- a via move
 
-module _ (t : Tech) (view : View) (v w enter : ℕ) (o : Overhead) {line : LayerStruct} (is : line ≡ layerStruct (lineOf t v)) where
+module _ (g : Grid) (view : View) (v w enter : ℕ) (o : Overhead) (line : LayerStruct) where
+  -- the code's overhead, for a layer line
+  abbrev Owes : OverheadEnum → Type 0
+  Owes r = IsOverhead (line .wire) (line .area) g view v r o
+
   abbrev Leaves : SteppedEnum → Type 0
-  Leaves r = IsStepped (t .grid) view v r (leaving t v w enter o)
+  Leaves r = IsStepped g view v r (leaving w enter o)
 
   -- that owes nothing
-  pub owed-nothing : IsOverhead (t .grid) view v Nothing o → {over : ℕ} {none : ExtensionStruct} → fin over ≡ overheadCost line Nothing → none ≡ noExtension
+  pub owed-nothing : Owes Nothing → {over : ℕ} {none : ExtensionStruct} → fin over ≡ overheadCost line Nothing → none ≡ noExtension
       → Leaves (byVia w enter over none 0 0)
   unfolding leaving overheadBy overheadCost byVia steppedBy madeBy WholeStep noExtension laidBy clearRun segmentOf
   owed-nothing owes {over} costs n =
       let price : over ≡ 0 = same-fin refl costs in
-      rw (n, price) (record { same = rw (← owes .same) refl; whole = record { few = omega arith; whole = none-whole (t .grid) view v } })
+      rw (n, price) (record { same = rw (← owes .same) refl; whole = record { few = omega arith; whole = none-whole g view v } })
 
   -- that lengthens
-  pub owed-lengthened : {n : ℕ} {e : ExtensionStruct} → IsOverhead (t .grid) view v (Lengthened n e) o → {over : ℕ} → fin over ≡ overheadCost line (Lengthened n e)
+  pub owed-lengthened : {n : ℕ} {e : ExtensionStruct} → Owes (Lengthened n e) → {over : ℕ} → fin over ≡ overheadCost line (Lengthened n e)
       → Leaves (byVia w enter over e n 0)
   unfolding leaving overheadBy overheadCost FewMissing WholeOverhead byVia steppedBy madeBy WholeStep segmentOf
   owed-lengthened {n} owes {over} costs =
       let price : over ≡ line .wire * n = same-fin refl costs in
-      rw price (record { same = rw (← owes .same, is) refl; whole = record { few = owes .few; whole = owes .whole } })
+      rw price (record { same = rw (← owes .same) refl; whole = record { few = owes .few; whole = owes .whole } })
 
   -- that pays the area penalty
-  pub owed-penalised : IsOverhead (t .grid) view v Penalised o → {over : ℕ} {none : ExtensionStruct} → fin over ≡ overheadCost line Penalised → none ≡ noExtension
+  pub owed-penalised : Owes Penalised → {over : ℕ} {none : ExtensionStruct} → fin over ≡ overheadCost line Penalised → none ≡ noExtension
       → Leaves (byVia w enter over none 0 1)
   unfolding leaving overheadBy overheadCost byVia steppedBy madeBy WholeStep noExtension laidBy clearRun segmentOf
   owed-penalised owes {over} costs n =
       let price : over ≡ line .area = same-fin refl costs in
-      rw (n, price) (record { same = rw (← owes .same, is) refl; whole = record { few = omega arith; whole = none-whole (t .grid) view v } })
+      rw (n, price) (record { same = rw (← owes .same) refl; whole = record { few = omega arith; whole = none-whole g view v } })
 
   -- that is forbidden
-  pub owed-forbidden : IsOverhead (t .grid) view v Forbidden o → Leaves Illegal
+  pub owed-forbidden : Owes Forbidden → Leaves Illegal
   unfolding leaving overheadBy steppedBy WholeStep
   owed-forbidden owes = record { same = rw (← owes .same) refl; whole = tt }
 
   -- what costs nothing that can be paid is forbidden
-  pub owed-closed : (r : OverheadEnum) → IsOverhead (t .grid) view v r o → inf ≡ overheadCost line r → Leaves Illegal
+  pub owed-closed : (r : OverheadEnum) → Owes r → inf ≡ overheadCost line r → Leaves Illegal
   unfolding overheadCost
   owed-closed Nothing owes costs = absurd (inf-not-fin costs)
   owed-closed (Lengthened n e) owes costs = absurd (inf-not-fin costs)

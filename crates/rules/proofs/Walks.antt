@@ -7,7 +7,7 @@
 --                                   vertices laid
 use Prim.Native.Nat.{ℕ, _+_, _<_}
 use mathlib.Core.Path.{_≡_, refl, _∙_}
-use mathlib.Core.List.{List, [], _∷_, _++_}
+use mathlib.Core.List.{List, [], _∷_, _++_, flatMap}
 use mathlib.Core.Bool.{true, false}
 use native.Mathlib.Nat.{add-zero}
 use native.Mathlib.Omega.{arith}
@@ -18,8 +18,8 @@ use Rattle.paths.specs.Rivals.{Route as RouteFrom}
 use Rattle.rules.specs.Views.{View, member}
 use Rattle.rules.specs.Segments.{kindOf, Place}
 use Rattle.rules.specs.Prices.{Tech}
-use Rattle.rules.specs.Steps.{Made, Stepped, illegal, legal, step, priced}
-use Rattle.rules.specs.Walks.{system, startAt, Route, Walked, stuck, walked, Sum, nothingYet, withMade, after, goOn, walk}
+use Rattle.rules.specs.Steps.{Made, Stepped, illegal, legal, step, priceOf, priced}
+use Rattle.rules.specs.Walks.{system, startAt, Route, Walked, stuck, walked, after, goOn, walk, verticesOf, laidOf, total, walkCost}
 use Rattle.rules.specs.Places.{GoodPlace, GoodTech}
 use Rattle.rules.proofs.Places.{start-good}
 use Rattle.rules.proofs.Segments.{no-step, move-led}
@@ -32,7 +32,7 @@ use Rattle.rules.proofs.Laid.{Free, all-append, step-free}
 record Legal (s : Stepped) (c : ℕ) (q : Place) : Type 0 where
   pub made : Made
   pub is : s ≡ legal made
-  pub cost : made .enter + made .over ≡ c
+  pub cost : priceOf made ≡ c
   pub next : made .next ≡ q
 
 -- a move that has a price is legal
@@ -55,36 +55,36 @@ step-passed {t} view p m {q = q} good h e =
     record { onGrid = step-keeps view p m good h e .vertex; unblocked = rw (l .vertex) (went .free) }
 
 -- a legal move, then the rest
-pub walk-on : (t : Tech) (view : View) (p : Place) (m : ℕ) (ms : List ℕ) (made : Made) {last : Place} {sum : Sum} → step t view p m ≡ legal made
-    → walk t view (made .next) ms ≡ walked last sum → walk t view p (m ∷ ms) ≡ walked last (withMade made sum)
+pub walk-on : (t : Tech) (view : View) (p : Place) (m : ℕ) (ms : List ℕ) (made : Made) {last : Place} {others : List Made} → step t view p m ≡ legal made
+    → walk t view (made .next) ms ≡ walked last others → walk t view p (m ∷ ms) ≡ walked last (made ∷ others)
 unfolding walk goOn after
 walk-on t view p m ms made is rest = rw (is, rest)
 
 -- a walk after its first move
-pub record First (t : Tech) (view : View) (p : Place) (m : ℕ) (ms : List ℕ) (last : Place) (sum : Sum) : Type 0 where
+pub record First (t : Tech) (view : View) (p : Place) (m : ℕ) (ms : List ℕ) (last : Place) (all : List Made) : Type 0 where
   pub made : Made
-  pub rest : Sum
+  pub rest : List Made
   pub is : step t view p m ≡ legal made
   pub goes : walk t view (made .next) ms ≡ walked last rest
-  pub sums : sum ≡ withMade made rest
+  pub sums : all ≡ made ∷ rest
 
 -- a walk taken apart
-pub walk-first : (t : Tech) (view : View) (p : Place) (m : ℕ) (ms : List ℕ) {last : Place} {sum : Sum} → walk t view p (m ∷ ms) ≡ walked last sum
-    → First t view p m ms last sum
+pub walk-first : (t : Tech) (view : View) (p : Place) (m : ℕ) (ms : List ℕ) {last : Place} {all : List Made} → walk t view p (m ∷ ms) ≡ walked last all
+    → First t view p m ms last all
 unfolding walk goOn after
-walk-first t view p m ms {last} {sum} e = by (step t view p m) refl e
+walk-first t view p m ms {last} {all} e = by (step t view p m) refl e
   where
-    not-stuck : stuck ≡ walked last sum → ⊥
+    not-stuck : stuck ≡ walked last all → ⊥
     not-stuck h = let z : _≡_ {A = ℕ} 0 1 = cc in omega arith
 
-    on : (made : Made) → step t view p m ≡ legal made → (w : Walked) → walk t view (made .next) ms ≡ w → after made w ≡ walked last sum
-        → First t view p m ms last sum
+    on : (made : Made) → step t view p m ≡ legal made → (w : Walked) → walk t view (made .next) ms ≡ w → after made w ≡ walked last all
+        → First t view p m ms last all
     on made is stuck goes h = absurd (not-stuck h)
     on made is (walked l s) goes h =
         let same : l ≡ last = cc in
         record { made = made; rest = s; is = is; goes = rw same at goes; sums = cc }
 
-    by : (s : Stepped) → step t view p m ≡ s → goOn (λ q. walk t view q ms) s ≡ walked last sum → First t view p m ms last sum
+    by : (s : Stepped) → step t view p m ≡ s → goOn (λ q. walk t view q ms) s ≡ walked last all → First t view p m ms last all
     by illegal is h = absurd (not-stuck h)
     by (legal made) is h = on made is (walk t view (made .next) ms) refl h
 
@@ -93,26 +93,26 @@ walk-first t view p m ms {last} {sum} e = by (step t view p m) refl e
 -- the walk of a route of this cost from a place: it ends at an unjoined pin, and enters none on its way
 pub record Walks (t : Tech) (view : View) (unjoined : List ℕ) (p : Place) (moves : List ℕ) (c : ℕ) : Type 0 where
   pub last : Place
-  pub sum : Sum
-  pub does : walk t view p moves ≡ walked last sum
-  pub cost : sum .cost ≡ c
+  pub made : List Made
+  pub does : walk t view p moves ≡ walked last made
+  pub cost : walkCost made ≡ c
   pub ends : member (last .vertex) unjoined ≡ true
   pub way : List ℕ
-  pub enters : sum .vertices ≡ way ++ (last .vertex ∷ [])
+  pub enters : verticesOf made ≡ way ++ (last .vertex ∷ [])
   pub passes : All (λ v. member v unjoined ≡ false) way
-  pub onGrid : All (Passed (t .grid) view) (sum .vertices)
-  pub laid : All (Free (t .grid) view) (sum .laid)
+  pub onGrid : All (Passed (t .grid) view) (verticesOf made)
+  pub laid : All (Free (t .grid) view) (laidOf made)
 
 module _ {t : Tech} (good : GoodTech t) (view : View) {unjoined : List ℕ} where
   -- from a good place
   place-walk : {p : Place} {ms : List ℕ} {c : ℕ} → GoodPlace t p → RouteFrom (system t view unjoined) p ms c → Walks t view unjoined p ms c
-  unfolding walk withMade nothingYet All
+  unfolding walk flatMap total All
   place-walk ok (RouteFrom.enters {s = p} {t = q} {m = m} {p = price} move goal) =
       let leads = move .leads in
       let l = step-legal (step t view p m) leads in
       record {
         last = l .made .next;
-        sum = withMade (l .made) nothingYet;
+        made = l .made ∷ [];
         does = walk-on t view p m [] (l .made) (l .is) refl;
         cost = add-zero _ ∙ l .cost;
         ends = rw (l .next) goal;
@@ -128,7 +128,7 @@ module _ {t : Tech} (good : GoodTech t) (view : View) {unjoined : List ℕ} wher
       let rest = place-walk (step-keeps view p m good ok leads) r in
       record {
         last = rest .last;
-        sum = withMade (l .made) (rest .sum);
+        made = l .made ∷ rest .made;
         does = walk-on t view p m ms (l .made) (l .is) (rw (l .next) (rest .does));
         cost = rw (l .cost, rest .cost);
         ends = rest .ends;
@@ -136,7 +136,7 @@ module _ {t : Tech} (good : GoodTech t) (view : View) {unjoined : List ℕ} wher
         enters = rw (l .next, rest .enters);
         passes = (no-goal, rest .passes);
         onGrid = (rw (l .next) (step-passed view p m good ok leads), rest .onGrid);
-        laid = all-append (Free (t .grid) view) (l .made .laid) (rest .sum .laid) (step-free t view p m (ok .vertex) (l .is)) (rest .laid);
+        laid = all-append (Free (t .grid) view) (l .made .laid) (laidOf (rest .made)) (step-free t view p m (ok .vertex) (l .is)) (rest .laid);
       }
 
   -- from a vertex of the tree

@@ -1,7 +1,7 @@
 -- What a via move owes for the segment that it leaves.
 --     clearRun                 the clear vertices beyond one
---     Overhead, overheadOf     nothing, an extension, the area penalty, or that the move is forbidden
-use Prim.Native.Nat.{ℕ, zero, suc, _-_}
+--     Overhead, overheadOf     what is owed, or that the move is forbidden
+use Prim.Native.Nat.{ℕ, zero, suc, _-_, _*_}
 use mathlib.Core.List.{List, [], _∷_}
 use mathlib.Core.Bool.{Bool, true, false, _&&_, not, cond}
 use lib.ListN.{length}
@@ -33,29 +33,30 @@ unfoldable pub clearRun : Grid → View → Direction → (k v : ℕ) → List �
 clearRun g view d zero v = []
 clearRun g view d (suc k) v = onFrom view (clearRun g view d k) (entered g v (toward d))
 
+-- a price, the vertices laid, the steps that were missing and how many segments are penalised; or the move is
+-- forbidden
 pub data Overhead : Type 0 where
-  nothing : Overhead
-  lengthened : (missing : ℕ) (laid : List ℕ) → Overhead
-  penalised : Overhead
   forbidden : Overhead
+  owes : (price : ℕ) (laid : List ℕ) (added penalties : ℕ) → Overhead
 
 -- "Otherwise it is the area penalty, or the move is forbidden if that is closed."
 unfoldable pub otherwise : (area : ℕ) → Overhead
-otherwise area = cond (eqb area closedPrice) forbidden penalised
+otherwise area = cond (eqb area closedPrice) forbidden (owes area [] 0 1)
 
--- "If M − n are clear .. these vertices become metal of the net."
-unfoldable pub lengthenedBy : (missing : ℕ) → (run : List ℕ) → Overhead → Overhead
-lengthenedBy missing run else = cond (eqb (length run) missing) (lengthened missing run) else
+-- "If M − n are clear, the overhead is wire price × (M − n) and these vertices become metal of the net."
+unfoldable pub lengthenedBy : (wire missing : ℕ) → (run : List ℕ) → Overhead → Overhead
+lengthenedBy wire missing run else = cond (eqb (length run) missing) (owes (wire * missing) run missing 0) else
+
+-- so on one side of a vertex
+unfoldable pub lengthenedOn : Tech → View → (v missing : ℕ) → Direction → Overhead → Overhead
+lengthenedOn t view v missing d else = lengthenedBy (lineOf t v .wire) missing (clearRun (t .grid) view d missing v) else
 
 -- "A via move out of a segment of length n < M also costs overhead." "A fresh segment tries high, then low."
 -- A segment in a direction tries that.
 unfoldable pub overheadOf : Tech → View → (v : ℕ) → Segment → Overhead
 overheadOf t view v fresh =
     let least = lineOf t v .minLength in
-    lengthenedBy least (clearRun (t .grid) view high least v)
-    (lengthenedBy least (clearRun (t .grid) view low least v) (otherwise (lineOf t v .area)))
-overheadOf t view v (running d n) =
-    let missing = lineOf t v .minLength - n in
-    lengthenedBy missing (clearRun (t .grid) view d missing v) (otherwise (lineOf t v .area))
-overheadOf t view v paid = nothing
-overheadOf t view v (paidToward d) = nothing
+    lengthenedOn t view v least high (lengthenedOn t view v least low (otherwise (lineOf t v .area)))
+overheadOf t view v (running d n) = lengthenedOn t view v (lineOf t v .minLength - n) d (otherwise (lineOf t v .area))
+overheadOf t view v paid = owes 0 [] 0 0
+overheadOf t view v (paidToward d) = owes 0 [] 0 0

@@ -9,7 +9,8 @@ use lib.ListN.{length}
 use Rattle.job.specs.Job.{Net, Job}
 use Rattle.rules.specs.Views.{pinsOf, viewOf}
 use Rattle.rules.specs.Prices.{techOf}
-use Rattle.rules.specs.Walks.{Walked, stuck, walked, Sum, startAt, walk}
+use Rattle.rules.specs.Steps.{Made}
+use Rattle.rules.specs.Walks.{startAt, Walked, stuck, walked, walk, walkCost, walkAdded, walkPenalties}
 use Rattle.rules.specs.Standings.{Standing, metalAtFirst, begun, joinedBy}
 use Rattle.rules.specs.Joins.{Record, join, none, joinOf}
 
@@ -29,17 +30,11 @@ unfoldable pub noTotals : Totals
 noTotals = record { cost = 0; added = 0; penalties = 0; joined = 0 }
 
 -- "The running totals are lent from join to join"
-unfoldable pub withJoin : Totals → Sum → Totals
-withJoin totals sum =
-    record {
-      cost = totals .cost + sum .cost;
-      added = totals .added + sum .added;
-      penalties = totals .penalties + sum .penalties;
-      joined = totals .joined;
-    }
+unfoldable pub withJoin : Totals → List Made → Totals
+withJoin t ms = record { cost = t .cost + walkCost ms; added = t .added + walkAdded ms; penalties = t .penalties + walkPenalties ms; joined = t .joined }
 
 unfoldable pub withNet : Totals → Totals
-withNet totals = record { cost = totals .cost; added = totals .added; penalties = totals .penalties; joined = suc (totals .joined) }
+withNet t = record { cost = t .cost; added = t .added; penalties = t .penalties; joined = suc (t .joined) }
 
 pub record Routed : Type 0 where
   pub entries : List Entry
@@ -53,7 +48,7 @@ withEntry e r = record { entries = e ∷ r .entries; metal = r .metal; totals = 
 -- what stands and the totals after a join's moves; a join that is stuck ends the net
 unfoldable pub afterJoin : (k : ℕ) → Standing → Totals → (Standing → Totals → Routed) → Walked → Routed
 afterJoin k s totals rest stuck = record { entries = []; metal = s .metal; totals = totals }
-afterJoin k s totals rest (walked last sum) = rest (joinedBy k s (last .vertex) sum) (withJoin totals sum)
+afterJoin k s totals rest (walked last made) = rest (joinedBy k s (last .vertex) made) (withJoin totals made)
 
 -- "With no legal join the net ends and the next begins."
 unfoldable pub byRecord : Job → (k : ℕ) → Standing → Totals → (Standing → Totals → Routed) → Record → Routed

@@ -12,7 +12,8 @@ use Rattle.job.specs.Grid.{vertices}
 use Rattle.job.specs.Job.{Job}
 use Rattle.rules.specs.Views.{member, pinsOf}
 use Rattle.rules.specs.Prices.{Tech}
-use Rattle.rules.specs.Walks.{Sum}
+use Rattle.rules.specs.Steps.{Made}
+use Rattle.rules.specs.Walks.{verticesOf, laidOf}
 
 -- "every pin counts, joined or not"
 unfoldable pub metalAtFirst : Job → List (List ℕ)
@@ -41,12 +42,12 @@ more (suc k) vs (other ∷ rest) = other ∷ more k vs rest
 
 -- "Its vertices enter the tree; its extensions are metal but by themselves no starting point, and a pin under
 -- one stays unjoined." "A pin is joined if it is the net's first or an earlier record of the net ends there."
-unfoldable pub joinedBy : (k : ℕ) → Standing → (end : ℕ) → Sum → Standing
-joinedBy k s end sum =
+unfoldable pub joinedBy : (k : ℕ) → Standing → (end : ℕ) → List Made → Standing
+joinedBy k s end made =
     record {
-      tree = s .tree ++ sum .vertices;
+      tree = s .tree ++ verticesOf made;
       unjoined = without end (s .unjoined);
-      metal = more k (sum .vertices ++ sum .laid) (s .metal);
+      metal = more k (verticesOf made ++ laidOf made) (s .metal);
     }
 
 -- the vertices of a tree are of the grid, and none is an unjoined pin

@@ -9,7 +9,7 @@ use Rattle.job.specs.Job.{Layer, largestMinLength}
 use Rattle.job.specs.Structs.{Small, Sized, gridOf, vertexStruct}
 use Rattle.paths.specs.Systems.{Step, blocked, to}
 use Rattle.paths.specs.Distances.{Cost, fin, inf}
-use Rattle.rules.specs.Prices.{Tech, lineOf, entering}
+use Rattle.rules.specs.Prices.{Tech, entering}
 use Rattle.rules.specs.Places.{GoodTech}
 use Rattle.job.specs.declared.groups.Layer.{Layer as LayerStruct}
 use Rattle.job.specs.declared.layers.Layers.{Layers}
@@ -19,7 +19,7 @@ use Rattle.rules.specs.declared.price.Tech.{Tech as TechStruct}
 use Rattle.rules.specs.Tracks.{vertexBy, indexOn, lengthOn, Entered, outside, at, entered}
 use Rattle.rules.specs.Views.{View}
 use Rattle.rules.specs.Segments.{Direction, low, high, Kind, along, down, up, against, Segment, fresh, running, paid, paidToward, Place, Grown, back, grown}
-use Rattle.rules.specs.Overheads.{clearRun, Overhead, nothing, lengthened, penalised, forbidden, otherwise, lengthenedBy, overheadOf}
+use Rattle.rules.specs.Overheads.{clearRun, Overhead, forbidden, owes, otherwise, lengthenedBy, overheadOf}
 use Rattle.rules.specs.declared.segment.Direction.{Direction as DirectionEnum}
 use Rattle.rules.specs.declared.segment.Direction.the-variants.{Low, High}
 use Rattle.rules.specs.declared.segment.Segment.{Segment as SegmentEnum}
@@ -157,11 +157,12 @@ pub record Whole (g : Grid) (view : View) (v : ℕ) (e : ExtensionStruct) : Type
 unfoldable pub noExtension : ExtensionStruct
 noExtension = record { toward = High; count = 0 }
 
-unfoldable pub overheadBy : Grid → View → (v : ℕ) → OverheadEnum → Overhead
-overheadBy g view v Nothing = nothing
-overheadBy g view v (Lengthened n e) = lengthened n (laidBy g view v e)
-overheadBy g view v Penalised = penalised
-overheadBy g view v Forbidden = forbidden
+-- by the wire price and the area penalty of the layer that is left
+unfoldable pub overheadBy : (wire area : ℕ) → Grid → View → (v : ℕ) → OverheadEnum → Overhead
+overheadBy wire area g view v Nothing = owes 0 [] 0 0
+overheadBy wire area g view v (Lengthened n e) = owes (wire * n) (laidBy g view v e) n 0
+overheadBy wire area g view v Penalised = owes area [] 0 1
+overheadBy wire area g view v Forbidden = forbidden
 
 -- the sides in the order in which they are tried: high, then low
 unfoldable pub sideBy : ℕ → Direction
@@ -174,14 +175,15 @@ triesOn Both d = true
 triesOn (Only e) d = not (against (directionOf e) d)
 
 -- an extension on a side, where it is tried and as many vertices are clear as are missing
-unfoldable pub onSide : Grid → View → (v missing : ℕ) → SidesEnum → Direction → Overhead → Overhead
-onSide g view v missing sides d else = cond (triesOn sides d) (lengthenedBy missing (clearRun g view d missing v) else) else
+unfoldable pub onSide : (wire : ℕ) → Grid → View → (v missing : ℕ) → SidesEnum → Direction → Overhead → Overhead
+onSide wire g view v missing sides d else = cond (triesOn sides d) (lengthenedBy wire missing (clearRun g view d missing v) else) else
 
 -- the sides from one on are left to try, then the area penalty
-unfoldable pub fromSide : Grid → View → (v missing area : ℕ) → SidesEnum → (side : ℕ) → Overhead
-fromSide g view v missing area sides zero = onSide g view v missing sides high (onSide g view v missing sides low (otherwise area))
-fromSide g view v missing area sides (suc zero) = onSide g view v missing sides low (otherwise area)
-fromSide g view v missing area sides (suc (suc n)) = otherwise area
+unfoldable pub fromSide : (wire area : ℕ) → Grid → View → (v missing : ℕ) → SidesEnum → (side : ℕ) → Overhead
+fromSide wire area g view v missing sides zero =
+    onSide wire g view v missing sides high (onSide wire g view v missing sides low (otherwise area))
+fromSide wire area g view v missing sides (suc zero) = onSide wire g view v missing sides low (otherwise area)
+fromSide wire area g view v missing sides (suc (suc n)) = otherwise area
 
 -- fewer than 16 steps are missing
 unfoldable pub FewMissing : OverheadEnum → Type 0
@@ -196,14 +198,14 @@ WholeOverhead g view v (Lengthened n e) = Whole g view v e
 WholeOverhead g view v Penalised = Unit
 WholeOverhead g view v Forbidden = Unit
 
-pub record IsOverhead (g : Grid) (view : View) (v : ℕ) (r : OverheadEnum) (o : Overhead) : Type 0 where
-  pub same : overheadBy g view v r ≡ o
+pub record IsOverhead (wire area : ℕ) (g : Grid) (view : View) (v : ℕ) (r : OverheadEnum) (o : Overhead) : Type 0 where
+  pub same : overheadBy wire area g view v r ≡ o
   pub few : FewMissing r
   pub whole : WholeOverhead g view v r
 
 -- one that lays nothing is the same wherever it is asked
-abbrev pub IsOverheadAnywhere : OverheadEnum → Overhead → Type 0
-IsOverheadAnywhere r o = (g : Grid) (view : View) (v : ℕ) → IsOverhead g view v r o
+abbrev pub IsOverheadAnywhere : (area : ℕ) → OverheadEnum → Overhead → Type 0
+IsOverheadAnywhere area r o = (wire : ℕ) (g : Grid) (view : View) (v : ℕ) → IsOverhead wire area g view v r o
 
 -- what an overhead costs, by the layer line of the vertex that is left
 unfoldable pub overheadCost : LayerStruct → OverheadEnum → Cost
@@ -213,14 +215,12 @@ overheadCost line Penalised = fin (line .area)
 overheadCost line Forbidden = inf
 
 -- the same of the definition's, for a via out of a place
-unfoldable pub leavingCost : Tech → (v : ℕ) → Overhead → Cost
-leavingCost t v nothing = fin 0
-leavingCost t v (lengthened missing laid) = fin (lineOf t v .wire * missing)
-leavingCost t v penalised = fin (lineOf t v .area)
-leavingCost t v forbidden = inf
+unfoldable pub overheadPrice : Overhead → Cost
+overheadPrice forbidden = inf
+overheadPrice (owes price laid added penalties) = fin price
 
 unfoldable pub owedCost : Tech → View → Place → Cost
-owedCost t view p = leavingCost t (p .vertex) (overheadOf t view (p .vertex) (p .segment))
+owedCost t view p = overheadPrice (overheadOf t view (p .vertex) (p .segment))
 
 -- a via to a vertex at a price of entering, with what it owes
 unfoldable pub byOwed : (w enter : ℕ) → Cost → Step Place

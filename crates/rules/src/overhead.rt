@@ -1,9 +1,10 @@
 // What a via move owes for the segment that it leaves.
 ghost use mathlib.Core.Path.{_≡_};
-ghost use Prim.Native.Nat.{_-_, _<_};
+ghost use Prim.Native.Nat.{ℕ, _-_, _<_};
 ghost use Rattle.job.specs.Grid.{vertices};
 ghost use Rattle.job.specs.Structs.{Sized, gridOf, vertexStruct};
 ghost use Rattle.rules.specs.Tracks.{vertexBy};
+ghost use Rattle.rules.specs.Prices.{lineOf};
 ghost use Rattle.rules.specs.Overheads.{otherwise, overheadOf};
 ghost use Rattle.rules.specs.Seen.{viewBy};
 ghost use Rattle.rules.specs.Structs.{directionOf, segmentOf, techBy, seenBy, costOf, sideBy, triesOn, fromSide, noExtension, FewMissing, IsOverhead, IsOverheadAnywhere, overheadCost, Here};
@@ -46,7 +47,7 @@ pub enum Overhead {
 
 // The area penalty, or that the move is forbidden if that is closed.
 fn otherwise(area: usize) -> Overhead
-    ensures { λ r. ⌜ IsOverheadAnywhere r (otherwise area) ⌝ }
+    ensures { λ r. ⌜ IsOverheadAnywhere area r (otherwise area) ⌝ }
 {
     let penalty = Penalty::from_field(area);
     match penalty {
@@ -102,7 +103,7 @@ fn lengthened(
 ) -> Overhead
     requires { ⌜ (Sized grid) × (v < vertices (gridOf grid)) × (from ≡ vertexStruct (vertexBy (gridOf grid) v)) × (missing < 16) ⌝ }
     ensures { λ r. ⌜ (let view = viewBy (gridOf grid) (now (seen .entry)) in
-        IsOverhead (gridOf grid) view v r (fromSide (gridOf grid) view v missing area sides 0)) ⌝ }
+        (wire : ℕ) → IsOverhead wire area (gridOf grid) view v r (fromSide wire area (gridOf grid) view v missing sides 0)) ⌝ }
 {
     let track = track_of(grid, from);
     'sides: for side in 0..2 {
@@ -144,7 +145,8 @@ pub fn overhead_of(
     requires { ⌜ ((tech : TechStruct) × Here tech (now prices) v from × (tech .grid ≡ grid)) ⌝ }
     ensures { λ r. ⌜ ((tech : TechStruct) → Here tech (now (prices .entry)) v from → tech .grid ≡ grid
         → (let view = seenBy tech (now (seen .entry)) in
-        IsOverhead (gridOf (tech .grid)) view v r (overheadOf (techBy tech) view v (segmentOf segment)))) ⌝ }
+        let line = lineOf (techBy tech) v in
+        IsOverhead (line .wire) (line .area) (gridOf (tech .grid)) view v r (overheadOf (techBy tech) view v (segmentOf segment)))) ⌝ }
 {
     let line = line_at(prices, from.layer);
     match segment {

@@ -1,11 +1,10 @@
 // One move from a place.
 ghost use mathlib.Core.Path.{_≡_};
 ghost use Prim.Native.Nat.{ℕ, _<_};
-ghost use Rattle.job.specs.Grid.{vertices};
-ghost use Rattle.job.specs.Structs.{gridOf, layerStruct};
+ghost use Rattle.job.specs.Grid.{Grid as GridRecord, vertices};
+ghost use Rattle.job.specs.Structs.{gridOf};
 ghost use Rattle.rules.specs.Views.{View};
 ghost use Rattle.rules.specs.Segments.{grow};
-ghost use Rattle.rules.specs.Prices.{Tech as TechRecord, lineOf};
 ghost use Rattle.rules.specs.PriceLists.{Priced};
 ghost use Rattle.rules.specs.Overheads.{overheadOf, Overhead as Owed};
 ghost use Rattle.rules.specs.Steps.{stepping, leaving, bySegment, step};
@@ -141,8 +140,8 @@ fn by_via(
 // A via move out of a vertex with a layer line, by what it owes.
 fn leave_by(line: Layer, into: usize, enter: usize, overhead: Overhead) -> Stepped
     requires { ⌜ (line .wire < 1024) × (FewMissing overhead) ⌝ }
-    ensures { λ r. ⌜ ((t : TechRecord) (view : View) (v : ℕ) (owed : Owed) → line ≡ layerStruct (lineOf t v) → IsOverhead (t .grid) view v overhead owed
-        → IsStepped (t .grid) view v r (leaving t v into enter owed)) ⌝ }
+    ensures { λ r. ⌜ ((g : GridRecord) (view : View) (v : ℕ) (owed : Owed) → IsOverhead (line .wire) (line .area) g view v overhead owed
+        → IsStepped g view v r (leaving into enter owed)) ⌝ }
 {
     let Penalty::Price(over) = overhead_price(line, overhead) else {
         return Stepped::Illegal;
@@ -171,7 +170,7 @@ fn leave_layer(
     ensures { λ r. ⌜ ((tech : TechStruct) → Here tech (now (prices .entry)) (place .vertex) from → tech .grid ≡ grid
         → (let view = seenBy tech (now (seen .entry)) in
         IsStepped (gridOf (tech .grid)) view (place .vertex) r
-        (leaving (techBy tech) (place .vertex) into enter (overheadOf (techBy tech) view (place .vertex) (segmentOf (place .segment)))))) ⌝ }
+        (leaving into enter (overheadOf (techBy tech) view (place .vertex) (segmentOf (place .segment)))))) ⌝ }
 {
     let segment = place.segment;
     let overhead = overhead_of(grid, prices, seen, place.vertex, from, segment);

@@ -9,12 +9,12 @@ use native.Mathlib.Omega.{arith}
 use native.Mathlib.Nat.{zero-add}
 use mathlib.Core.Path.{_≡_, refl, ap, _∙_}
 use mathlib.Core.Logic.{_↔_}
-use mathlib.Core.List.{List, [], _∷_, _++_}
+use mathlib.Core.List.{List, [], _∷_, _++_, flatMap}
 use lib.ListN.{length, drop, replicate, length-append, length-drop, length-replicate}
 use lib.Seq.{drop-append-seam}
 use Rattle.bits.specs.Bits.{number, bitsOf, packBits, AllBelow}
 use Rattle.job.specs.Job.{Net, Job}
-use Rattle.job.specs.Packing.{groupBits, concatBits, headBits, layerBits, vertexBits, obstacleBits, boxBits, netBits, jobBits}
+use Rattle.job.specs.Packing.{groupBits, headBits, layerBits, vertexBits, obstacleBits, boxBits, netBits, jobBits}
 use Rattle.bits.proofs.Laws.{fieldBits-bits, below-append, below-drop, number-zero, bitsOf-packBits, packBits-only}
 use Rattle.job.proofs.TwoWay.Places.{Placed, placed}
 
@@ -30,8 +30,8 @@ group-below [] = none-below
 group-below (f ∷ fs) = below-append 2 _ _ (fieldBits-bits (f .0) (f .1)) (group-below fs)
 
 -- the bits of groups one after the other
-pub concat-below : {A : Type 0} (bits : A → List ℕ) → ((x : A) → AllBelow 2 (bits x)) → (xs : List A) → AllBelow 2 (concatBits bits xs)
-unfolding concatBits
+pub concat-below : {A : Type 0} (bits : A → List ℕ) → ((x : A) → AllBelow 2 (bits x)) → (xs : List A) → AllBelow 2 (flatMap bits xs)
+unfolding flatMap
 concat-below bits below [] = none-below
 concat-below bits below (x ∷ xs) = below-append 2 _ _ (below x) (concat-below bits below xs)
 

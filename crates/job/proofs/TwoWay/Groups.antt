@@ -11,7 +11,7 @@ use Prim.Native.Nat.{ℕ, zero, suc, _+_, _-_, _≤_}
 use native.Mathlib.Omega.{arith}
 use mathlib.Core.Path.{_≡_, refl}
 use mathlib.Core.Logic.{_↔_, Iff·trans, Iff·and, Iff·rfl}
-use mathlib.Core.List.{List, [], _∷_, append-assoc, append-nil}
+use mathlib.Core.List.{List, [], _∷_, append-assoc, append-nil, flatMap}
 use lib.ListN.{length}
 use lib.Dec.{T, lit<}
 use Rattle.bits.specs.Bits.{field, whole, AllBelow}
@@ -20,7 +20,7 @@ use Rattle.job.specs.Grid.{Grid, Vertex, inside, runHigh}
 use Rattle.job.specs.Job.{Layer, Obstacle, Box}
 use Rattle.job.specs.Reading.{good, layerAt, readLayer, viaRule, vertexAt, obstacleAt, covered, readObstacle, boxAt, goodSpan, goodBox, readBox}
 use Rattle.job.specs.Reading.{readMany}
-use Rattle.job.specs.Packing.{groupBits, concatBits, layerBits, vertexBits, obstacleBits, boxBits}
+use Rattle.job.specs.Packing.{groupBits, layerBits, vertexBits, obstacleBits, boxBits}
 use Rattle.job.specs.Good.{GoodGrid, GoodLayer, GoodLines, GoodObstacle}
 use Rattle.job.proofs.Tests.{and-holds, tests}
 use Rattle.job.proofs.Binds.{steps}
@@ -108,7 +108,7 @@ module _ (B : List ℕ) (bits : AllBelow 2 B) where
 
   -- reading the layer lines
   pub lines-read : (n at : ℕ) (ls : List Layer)
-      → (readMany 40 (readLayer B) n at ≡ good ls) ↔ ((length ls ≡ n) × (Placed B at (concatBits layerBits ls) × GoodLines ls))
+      → (readMany 40 (readLayer B) n at ≡ good ls) ↔ ((length ls ≡ n) × (Placed B at (flatMap layerBits ls) × GoodLines ls))
   unfolding GoodLines
   lines-read = groups-read B 40 layerBits layer-bits (readLayer B) GoodLayer layer-read GoodLines tt (λ l ls. Iff·rfl)
 
@@ -193,13 +193,13 @@ module _ (B : List ℕ) (bits : AllBelow 2 B) where
 
     -- reading the boxes of a net
     pub boxes-read : (n at : ℕ) (bs : List Box)
-        → (readMany 38 (readBox B g) n at ≡ good bs) ↔ ((length bs ≡ n) × (Placed B at (concatBits boxBits bs) × All (λ b. T (goodBox g b)) bs))
+        → (readMany 38 (readBox B g) n at ≡ good bs) ↔ ((length bs ≡ n) × (Placed B at (flatMap boxBits bs) × All (λ b. T (goodBox g b)) bs))
     unfolding All
     boxes-read = groups-read B 38 boxBits box-bits (readBox B g) (λ after b. T (goodBox g b)) box-read (All (λ b. T (goodBox g b))) tt (λ b bs. Iff·rfl)
 
     -- reading the obstacles
     pub obstacles-read : (n at : ℕ) (os : List Obstacle)
-        → (readMany 27 (readObstacle B g) n at ≡ good os) ↔ ((length os ≡ n) × (Placed B at (concatBits obstacleBits os) × All (GoodObstacle g) os))
+        → (readMany 27 (readObstacle B g) n at ≡ good os) ↔ ((length os ≡ n) × (Placed B at (flatMap obstacleBits os) × All (GoodObstacle g) os))
     unfolding All
     obstacles-read =
         groups-read B 27 obstacleBits obstacle-bits (readObstacle B g) (λ after. GoodObstacle g) obstacle-read (All (GoodObstacle g)) tt (λ o os. Iff·rfl)

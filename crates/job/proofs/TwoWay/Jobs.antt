@@ -10,13 +10,13 @@ use Prim.Native.Nat.{ℕ, _+_, _*_}
 use native.Mathlib.Omega.{arith}
 use mathlib.Core.Path.{_≡_, refl}
 use mathlib.Core.Logic.{_↔_, Iff·rfl}
-use mathlib.Core.List.{List}
+use mathlib.Core.List.{List, flatMap}
 use lib.ListN.{length}
 use Rattle.bits.specs.Bits.{AllBelow}
 use Rattle.job.specs.Job.{Layer, Obstacle, Net, Job}
 use Rattle.job.specs.Reading.{Head, good, jobHead, readHead, readTail, readAfterHead, readBits}
 use Rattle.job.specs.Reading.{obstaclesAt, netsAt, netsWidth}
-use Rattle.job.specs.Packing.{groupBits, concatBits, headBits, layerBits, obstacleBits, netBits, jobBits}
+use Rattle.job.specs.Packing.{groupBits, headBits, layerBits, obstacleBits, netBits, jobBits}
 use Rattle.job.specs.Good.{GoodJob}
 use Rattle.job.proofs.Tests.{tests}
 use Rattle.job.proofs.Binds.{bind-good, steps}
@@ -33,9 +33,9 @@ use Rattle.job.proofs.TwoWay.Filled.{Filled, filled-tail}
 pub job-placed : (B : List ℕ) (j : Job)
     → Placed B 0 (jobBits j)
     ↔ (Placed B 0 (headBits j)
-    × (Placed B 80 (concatBits layerBits (j .lines))
-    × (Placed B (80 + 40 * length (j .lines)) (concatBits obstacleBits (j .obstacles))
-    × Placed B (80 + 40 * length (j .lines) + 27 * length (j .obstacles)) (concatBits netBits (j .nets)))))
+    × (Placed B 80 (flatMap layerBits (j .lines))
+    × (Placed B (80 + 40 * length (j .lines)) (flatMap obstacleBits (j .obstacles))
+    × Placed B (80 + 40 * length (j .lines) + 27 * length (j .obstacles)) (flatMap netBits (j .nets)))))
 unfolding jobBits
 job-placed B j =
     simp (placed-append, head-bits, concat-bits layerBits 40 layer-bits, concat-bits obstacleBits 27 obstacle-bits) Iff·rfl

@@ -8,10 +8,9 @@ use Prim.Native.Nat.{ℕ, zero, suc, _+_}
 use native.Mathlib.Omega.{arith}
 use mathlib.Core.Path.{_≡_, refl, ap}
 use mathlib.Core.Logic.{_↔_}
-use mathlib.Core.List.{List, [], _∷_, _++_}
+use mathlib.Core.List.{List, [], _∷_, _++_, flatMap}
 use lib.ListN.{length}
 use Rattle.job.specs.Reading.{Read, good, _>>=_, readMany}
-use Rattle.job.specs.Packing.{concatBits}
 use Rattle.job.proofs.Binds.{bind-good}
 use Rattle.job.proofs.TwoWay.Places.{Placed, placed-nil, placed-append}
 
@@ -61,9 +60,9 @@ module _ (B : List ℕ) {S A : Type 0} (r : Run B S A) where
   -- one more group, where the law holds of the rest
   many-more : (s : S) (n at : ℕ) (x : A) (xs : List A)
       → ((r .many (r .next x s) n (at + r .width x) ≡ good xs)
-      ↔ ((length xs ≡ n) × (Placed B (at + r .width x) (concatBits (r .bits) xs) × r .AllRules (r .next x s) xs)))
+      ↔ ((length xs ≡ n) × (Placed B (at + r .width x) (flatMap (r .bits) xs) × r .AllRules (r .next x s) xs)))
       → (r .many s (suc n) at ≡ good (x ∷ xs))
-      ↔ ((suc (length xs) ≡ suc n) × (Placed B at (r .bits x ++ concatBits (r .bits) xs) × r .AllRules s (x ∷ xs)))
+      ↔ ((suc (length xs) ≡ suc n) × (Placed B at (r .bits x ++ flatMap (r .bits) xs) × r .AllRules s (x ∷ xs)))
   many-more s n at x xs rest =
       simp (r .many-suc, cons-good, r .read-good, rest, placed-append, r .more-rules, r .wide) (
         λ ((p, rule), (len, (ps, rules))). (ap suc len, ((p, ps), (rw len rule, rules))),
@@ -71,8 +70,8 @@ module _ (B : List ℕ) {S A : Type 0} (r : Run B S A) where
       )
 
   pub many-read : (s : S) (n at : ℕ) (xs : List A)
-      → (r .many s n at ≡ good xs) ↔ ((length xs ≡ n) × (Placed B at (concatBits (r .bits) xs) × r .AllRules s xs))
-  unfolding concatBits
+      → (r .many s n at ≡ good xs) ↔ ((length xs ≡ n) × (Placed B at (flatMap (r .bits) xs) × r .AllRules s xs))
+  unfolding flatMap
   many-read s zero at [] = (λ e. (refl, (placed-nil B at, r .no-rules s)), λ h. r .many-zero s at)
   many-read s zero at (x ∷ xs) =
       (λ e. let f = r .many-zero s at in let z : _≡_ {A = ℕ} 0 1 = cc in absurd (omega arith), λ h. absurd (omega arith))
@@ -88,7 +87,7 @@ pub groups-read : (B : List ℕ) {A : Type 0} (width : ℕ) (bits : A → List �
     → AllRules []
     → ((x : A) (xs : List A) → AllRules (x ∷ xs) ↔ (Rules (length xs) x × AllRules xs))
     → (n at : ℕ) (xs : List A)
-    → (readMany width read n at ≡ good xs) ↔ ((length xs ≡ n) × (Placed B at (concatBits bits xs) × AllRules xs))
+    → (readMany width read n at ≡ good xs) ↔ ((length xs ≡ n) × (Placed B at (flatMap bits xs) × AllRules xs))
 unfolding readMany
 groups-read B {A} width bits wide read Rules read-good AllRules no-rules more-rules = many-read B run tt
   where

@@ -7,7 +7,7 @@ use native.Mathlib.Omega.{arith}
 use mathlib.Core.Path.{_≡_, refl, sym}
 use mathlib.Core.Logic.{_↔_, Iff·rfl}
 use mathlib.Core.Bool.{not}
-use mathlib.Core.List.{List, [], _∷_, _++_}
+use mathlib.Core.List.{List, [], _∷_, _++_, flatMap}
 use lib.ListN.{length}
 use lib.Dec.{T, lit<}
 use Rattle.bits.specs.Bits.{whole, AllBelow}
@@ -15,7 +15,7 @@ use Rattle.job.specs.Lists.{any, All}
 use Rattle.job.specs.Grid.{Grid, Vertex, same}
 use Rattle.job.specs.Job.{Obstacle, Net}
 use Rattle.job.specs.Reading.{good, readPin, readPins, readNetHead, readNet, readNets, netWidth}
-use Rattle.job.specs.Packing.{groupBits, concatBits, vertexBits, boxBits, netBits}
+use Rattle.job.specs.Packing.{groupBits, vertexBits, boxBits, netBits}
 use Rattle.job.specs.Good.{GoodGrid, GoodPin, GoodNet, allPins}
 use Rattle.job.proofs.Tests.{tests, crosswise}
 use Rattle.job.proofs.Binds.{steps}
@@ -46,7 +46,7 @@ module _ (B : List ℕ) (bits : AllBelow 2 B) (g : Grid) (small : GoodGrid g) (o
   -- reading the pins of a net
   pins-read : (earlier : List Vertex) (n at : ℕ) (vs : List Vertex)
       → (readPins B g obstacles earlier n at ≡ good vs)
-      ↔ ((length vs ≡ n) × (Placed B at (concatBits vertexBits vs) × (All (GoodPin g obstacles) vs × New earlier vs)))
+      ↔ ((length vs ≡ n) × (Placed B at (flatMap vertexBits vs) × (All (GoodPin g obstacles) vs × New earlier vs)))
   unfolding readPins All
   pins-read = many-read B run
     where
@@ -72,7 +72,7 @@ module _ (B : List ℕ) (bits : AllBelow 2 B) (g : Grid) (small : GoodGrid g) (o
   pub net-placed : (at : ℕ) (net : Net)
       → Placed B at (netBits net)
       ↔ (Placed B at (groupBits (netFields net))
-      × (Placed B (at + 8) (concatBits vertexBits (net .pins)) × Placed B (at + 8 + 19 * length (net .pins)) (concatBits boxBits (net .boxes))))
+      × (Placed B (at + 8) (flatMap vertexBits (net .pins)) × Placed B (at + 8 + 19 * length (net .pins)) (flatMap boxBits (net .boxes))))
   unfolding netBits
   net-placed at net = simp (placed-append, net-head-bits, concat-bits vertexBits 19 vertex-bits) Iff·rfl
 
@@ -109,7 +109,7 @@ module _ (B : List ℕ) (bits : AllBelow 2 B) (g : Grid) (small : GoodGrid g) (o
   -- reading all nets
   pub nets-read : (earlier : List Vertex) (n at : ℕ) (nets : List Net)
       → (readNets B g obstacles earlier n at ≡ good nets)
-      ↔ ((length nets ≡ n) × (Placed B at (concatBits netBits nets) × (All (GoodNet g obstacles) nets × New earlier (allPins nets))))
+      ↔ ((length nets ≡ n) × (Placed B at (flatMap netBits nets) × (All (GoodNet g obstacles) nets × New earlier (allPins nets))))
   unfolding readNets All allPins
   nets-read = many-read B run
     where

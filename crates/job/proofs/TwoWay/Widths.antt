@@ -8,13 +8,13 @@
 use Prim.Native.Nat.{ℕ, _+_, _-_, _*_, _≤_}
 use native.Mathlib.Omega.{arith}
 use mathlib.Core.Path.{_≡_, refl}
-use mathlib.Core.List.{List, [], _∷_}
+use mathlib.Core.List.{List, [], _∷_, flatMap}
 use lib.ListN.{length, length-append}
 use Rattle.job.specs.Lists.{All}
 use Rattle.job.specs.Grid.{Grid, Vertex}
 use Rattle.job.specs.Job.{Layer, Obstacle, Box, Net, Job}
 use Rattle.job.specs.Reading.{netWidth, netsWidth}
-use Rattle.job.specs.Packing.{groupBits, concatBits, headBits, layerBits, vertexBits, obstacleBits, boxBits, netBits, jobBits, packJob}
+use Rattle.job.specs.Packing.{groupBits, headBits, layerBits, vertexBits, obstacleBits, boxBits, netBits, jobBits, packJob}
 use Rattle.job.specs.Good.{GoodNet, GoodJob}
 use Rattle.bits.proofs.Laws.{length-fieldBits, length-packBits}
 use Rattle.job.proofs.TwoWay.Places.{widths, length-groupBits}
@@ -41,8 +41,8 @@ box-bits b = length-groupBits _
 
 -- groups of one width take that many bits each
 pub concat-bits : {A : Type 0} (bits : A → List ℕ) (w : ℕ) → ((x : A) → length (bits x) ≡ w) → (xs : List A)
-    → length (concatBits bits xs) ≡ w * length xs
-unfolding concatBits
+    → length (flatMap bits xs) ≡ w * length xs
+unfolding flatMap
 concat-bits bits w wide [] = omega arith
 concat-bits bits w wide (x ∷ xs) = simp (length-append, wide, concat-bits bits w wide xs) (omega arith)
 
@@ -57,8 +57,8 @@ unfolding netBits netWidth
 net-bits net = simp (length-append, net-head-bits, concat-bits vertexBits 19 vertex-bits, concat-bits boxBits 38 box-bits) (omega arith)
 
 -- some nets take the bits that reading says
-pub nets-bits : (nets : List Net) → length (concatBits netBits nets) ≡ netsWidth nets
-unfolding concatBits netsWidth
+pub nets-bits : (nets : List Net) → length (flatMap netBits nets) ≡ netsWidth nets
+unfolding flatMap netsWidth
 nets-bits [] = refl
 nets-bits (net ∷ nets) = simp (length-append, net-bits, nets-bits nets)
 

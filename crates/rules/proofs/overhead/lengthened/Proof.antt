@@ -30,7 +30,7 @@ abbrev μ-loop : tie.MeasureT-loop
 
 abbrev Inv-sides : tie.InvT-sides
 Inv-sides area seen v missing sides track side₀ side =
-    OnTrack v track (λ g. fromSide g (viewBy g seen) v missing area sides side ≡ fromSide g (viewBy g seen) v missing area sides 0)
+    (wire : ℕ) → OnTrack v track (λ g. fromSide wire area g (viewBy g seen) v missing sides side ≡ fromSide wire area g (viewBy g seen) v missing sides 0)
 
 abbrev μ-sides : tie.MeasureT-sides
 μ-sides area seen v missing sides track side₀ side = 2 - side
@@ -47,7 +47,7 @@ track-of-requires c κs =
     (c .pre .0 .small, rw (c .pre .2) (fits (c .args .grid) (c .args .v) on .layer))
 
 sides-holds : tie.Need-sides-holds Inv-loop μ-loop Inv-sides μ-sides
-sides-holds c g from on r = refl
+sides-holds c wire g from on r = refl
 
 side-of-requires : tie.Need-side-of-requires Inv-loop μ-loop Inv-sides μ-sides
 side-of-requires c κs = search needs
@@ -62,9 +62,9 @@ sides-less : tie.Need-sides-less Inv-loop μ-loop Inv-sides μ-sides
 sides-less c = search needs
 
 sides-again : tie.Need-sides-again Inv-loop μ-loop Inv-sides μ-sides
-sides-again c g from on r =
-    rw one-more (sym (side-untried _ _ _ _ _ _ (c .before .before .before .sides-test .taken) (c .before .before .side-of .ensures)
-    (sym (c .before .tries .ensures) ∙ not-true _ (c .if1 .taken))) ∙ c .before .before .before .before .sides .inv g from on r)
+sides-again c wire g from on r =
+    rw one-more (sym (side-untried _ _ _ _ _ _ _ (c .before .before .before .sides-test .taken) (c .before .before .side-of .ensures)
+    (sym (c .before .tries .ensures) ∙ not-true _ (c .if1 .taken))) ∙ c .before .before .before .before .sides .inv wire g from on r)
 
 room-toward-requires : tie.Need-room-toward-requires Inv-loop μ-loop Inv-sides μ-sides
 room-toward-requires c κs = reading (c .before .before .before .before .before .before .pre) (c .before .before .before .before .before .track-of .ensures) .onTrack
@@ -76,10 +76,10 @@ sides-less-2 : tie.Need-sides-less-2 Inv-loop μ-loop Inv-sides μ-sides
 sides-less-2 c = search needs
 
 sides-again-2 : tie.Need-sides-again-2 Inv-loop μ-loop Inv-sides μ-sides
-sides-again-2 c g from on r =
+sides-again-2 c wire g from on r =
     let less = rw (c .before .room-toward .ensures ∙ room-read _ r) at (c .if2 .taken) in
-    rw one-more (sym (side-unclear _ _ _ _ _ _ (c .before .before .before .before .before .sides-test .taken) (c .before .before .before .before .side-of .ensures) (run-short _ _ _ _ _ on less))
-    ∙ c .before .before .before .before .before .before .sides .inv g from on r)
+    rw one-more (sym (side-unclear _ _ _ _ _ _ _ (c .before .before .before .before .before .sides-test .taken) (c .before .before .before .before .side-of .ensures) (run-short _ _ _ _ _ on less))
+    ∙ c .before .before .before .before .before .before .sides .inv wire g from on r)
 
 loop-holds : tie.Need-loop-holds Inv-loop μ-loop Inv-sides μ-sides
 loop-holds c = (refl, λ g from on r. counting-begun _ _ _ _ _ on (sym (r .stride)) (rw (c .before .room-toward .ensures ∙ room-read _ r) at (c .if2 .left)))
@@ -106,15 +106,15 @@ sides-less-3 : tie.Need-sides-less-3 Inv-loop μ-loop Inv-sides μ-sides
 sides-less-3 c = omega (arith, c .before .before .before .before .loop .inv .0, c .before .before .before .before .before .before .before .before .before .before .sides-test .taken)
 
 sides-again-3 : tie.Need-sides-again-3 Inv-loop μ-loop Inv-sides μ-sides
-sides-again-3 c g from on r =
+sides-again-3 c wire g from on r =
     let inv = c .before .before .before .before .loop .inv in
     let so-far = inv .1 g from on r in
     let taken = c .before .before .before .loop-test .taken in
     let next = counting-next _ _ _ _ _ so-far taken (c .before .before .next-toward .ensures) in
     let unclear = seen-clear _ _ _ (next .onGrid) ∙ sym (c .before .clear .ensures) ∙ not-true _ (c .if3 .taken) in
     rw (inv .0, one-more)
-    (sym (side-unclear _ _ _ _ _ _ (c .before .before .before .before .before .before .before .before .before .before .sides-test .taken) (c .before .before .before .before .before .before .before .before .before .side-of .ensures)
-    (counting-unclear _ _ _ _ _ so-far taken (c .before .before .next-toward .ensures) unclear)) ∙ c .before .before .before .before .before .before .before .before .before .before .before .sides .inv g from on r)
+    (sym (side-unclear _ _ _ _ _ _ _ (c .before .before .before .before .before .before .before .before .before .before .sides-test .taken) (c .before .before .before .before .before .before .before .before .before .side-of .ensures)
+    (counting-unclear _ _ _ _ _ so-far taken (c .before .before .next-toward .ensures) unclear)) ∙ c .before .before .before .before .before .before .before .before .before .before .before .sides .inv wire g from on r)
 
 add--count : tie.Need-add--count Inv-loop μ-loop Inv-sides μ-sides
 add--count c = search needs
@@ -135,22 +135,22 @@ loop-again c =
     )
 
 returns : tie.Need-returns Inv-loop μ-loop Inv-sides μ-sides
-returns c =
+returns c wire =
     let pre = c .before .before .before .before .before .before .before .before .before .before .pre in
     let r = reading pre (c .before .before .before .before .before .before .before .before .before .track-of .ensures) in
     let whole = counting-full _ _ _ _ _ (c .before .loop .inv .1 _ _ (pre .1) r) (c .loop-test .left) in
     let tried = sym (c .before .before .before .before .before .tries .ensures) ∙ not-false _ (c .before .before .before .before .if1 .left) in
-    owed-as (side-whole _ _ _ _ _ _ _ (c .before .before .before .before .before .before .before .sides-test .taken) (c .before .before .before .before .before .before .side-of .ensures) tried whole (pre .3))
-    (c .before .before .before .before .before .before .before .before .sides .inv _ _ (pre .1) r)
+    owed-as (side-whole _ _ _ _ _ _ _ _ (c .before .before .before .before .before .before .before .sides-test .taken) (c .before .before .before .before .before .before .side-of .ensures) tried whole (pre .3))
+    (c .before .before .before .before .before .before .before .before .sides .inv wire _ _ (pre .1) r)
 
 otherwise-requires : tie.Need-otherwise-requires Inv-loop μ-loop Inv-sides μ-sides
 otherwise-requires c κs = search needs
 
 returns-2 : tie.Need-returns-2 Inv-loop μ-loop Inv-sides μ-sides
-returns-2 c =
+returns-2 c wire =
     let pre = c .before .before .before .before .pre in
-    let all = sym (sides-done _ _ _ _ _ _ _ (c .before .sides-test .left)) ∙ c .before .before .sides .inv _ _ (pre .1) (reading pre (c .before .before .before .track-of .ensures)) in
-    owed-as (c .otherwise .ensures _ _ _) all
+    let all = sym (sides-done _ _ _ _ _ _ _ _ (c .before .sides-test .left)) ∙ c .before .before .sides .inv wire _ _ (pre .1) (reading pre (c .before .before .before .track-of .ensures)) in
+    owed-as (c .otherwise .ensures wire _ _ _) all
 
 pub lengthened-spec : {M : Type 1} → statement M
 lengthened-spec =

@@ -14,7 +14,7 @@ use Rattle.rules.specs.declared.price.Tech.{Tech as TechStruct}
 use Rattle.rules.proofs.Fitting.{layer-known}
 use Rattle.rules.proofs.Held.{line-fits}
 use Rattle.rules.proofs.PriceLists.{line-told}
-use Rattle.rules.proofs.Owed.{owed-as, both-sides, only-side}
+use Rattle.rules.proofs.Owed.{both-sides, only-side}
 use Rattle.rules.proofs.overhead.overhead_of.Statement.{statement}
 use Rattle.rules.proofs.overhead.overhead_of.Tie as tie
 
@@ -55,14 +55,14 @@ returns : tie.Need-returns
 unfolding segmentOf techBy
 returns c tech here same =
     rw (c .before .enum-told .given .1)
-    (owed-as (rw (← same) at (c .lengthened .ensures)) (both-sides (techBy tech) _ _ (c .before .before .before .line-at .ensures ∙ line-told here)))
+    (both-sides (techBy tech) _ _ (c .before .before .before .line-at .ensures ∙ line-told here) (rw (← same) at (c .lengthened .ensures)))
 
 returns-2 : tie.Need-returns-2
 unfolding segmentOf techBy
 returns-2 c tech here same =
     rw (c .before .before .before .segment .given .1)
-    (owed-as (rw (← same) at (c .lengthened2 .ensures))
-    (only-side (techBy tech) _ _ (c .before .before .before .before .before .line-at .ensures ∙ line-told here) _ _ (c .before .missing-of .ensures)))
+    (only-side (techBy tech) _ _ (c .before .before .before .before .before .line-at .ensures ∙ line-told here) _ _ (c .before .missing-of .ensures)
+    (rw (← same) at (c .lengthened2 .ensures)))
 
 returns-3 : tie.Need-returns-3
 unfolding segmentOf overheadOf overheadBy FewMissing WholeOverhead

@@ -23,7 +23,8 @@ leave-by-requires c κs =
 
 returns : tie.Need-returns
 unfolding techBy
-returns c tech here same = c .leave-by .ensures _ _ _ _ (c .before .line-at .ensures ∙ line-told here) (c .before .before .overhead-of .ensures tech here same)
+returns c tech here same =
+    c .leave-by .ensures _ _ _ _ (rw (c .before .line-at .ensures ∙ line-told here) (c .before .before .overhead-of .ensures tech here same))
 
 pub leave-layer-spec : {M : Type 1} → statement M
 leave-layer-spec = tie.close (tie.spec overhead-of-requires line-at-requires leave-by-requires returns)
