@@ -43,7 +43,7 @@ module _ (j : Job) (good : GoodTech (techOf j)) where
     moves-agree : (left : List Costs) (w : Walked) → Agrees (afterMoves k s rest left w) (afterJoin k s totals route w)
     unfolding afterMoves afterJoin
     moves-agree left stuck = (refl, refl)
-    moves-agree left (walked last sum) = h left (joinedBy k s (last .vertex) sum) (withJoin totals sum)
+    moves-agree left (walked last made) = h left (joinedBy k s (last .vertex) made) (withJoin totals made)
 
     -- after a record
     record-agrees : (left : List Costs) (r : Record) → Agrees (afterRecord j k s rest left r) (byRecord j k s totals route r)

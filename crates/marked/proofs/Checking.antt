@@ -31,7 +31,7 @@ withRecords rs (passed metal left others) = passed metal left (rs ++ others)
 -- after a join's moves
 unfoldable pub afterMoves : (k : ℕ) → Standing → (List Costs → Standing → Checked) → (left : List Costs) → Walked → Checked
 afterMoves k s rest left stuck = passed (s .metal) left []
-afterMoves k s rest left (walked last sum) = rest left (joinedBy k s (last .vertex) sum)
+afterMoves k s rest left (walked last made) = rest left (joinedBy k s (last .vertex) made)
 
 -- after a record
 unfoldable pub afterRecord : Job → (k : ℕ) → Standing → (List Costs → Standing → Checked) → (left : List Costs) → Record → Checked

@@ -18,9 +18,9 @@ use Rattle.rules.specs.Tracks.{layerOf, rowOf, columnOf, trackIndex, trackLengt
 use Rattle.rules.specs.Views.{member, othersHold, between, inBox, inGuide, pinsOf, boxesOf, viewOf}
 use Rattle.rules.specs.Segments.{kindOf, against, ofLength, notAgainst, grow}
 use Rattle.rules.specs.Prices.{techOf, lineOf, charge, penalty, base, guideAt, shortAt, sumCost, entering}
-use Rattle.rules.specs.Overheads.{clear, toward, onFrom, clearRun, otherwise, lengthenedBy, overheadOf}
+use Rattle.rules.specs.Overheads.{clear, toward, onFrom, clearRun, otherwise, lengthenedBy, lengthenedOn, overheadOf}
 use Rattle.rules.specs.Steps.{leaving, stepping, bySegment, ifPriced, into, step, priced}
-use Rattle.rules.specs.Walks.{startAt, nothingYet, withMade, after, goOn, walk}
+use Rattle.rules.specs.Walks.{startAt, after, goOn, walk}
 use Rattle.rules.specs.Standings.{metalAtFirst, begun, without, more, joinedBy}
 use Rattle.rules.specs.Joins.{places, joinFrom, joinBy}
 use Rattle.rules.specs.Places.{segmentCode, entryCost}
@@ -60,8 +60,8 @@ unfolding All rows rowA rowB rowC rowD rowE rowF rowG rowH rowI rowJ rowK rowL
     isCost onward keeps lowestFrom lowestKeeping moveOn follow orNext best startCost
     layerOf rowOf columnOf trackIndex trackLength ifThere entered member othersHold between inBox inGuide pinsOf boxesOf viewOf
     kindOf against ofLength notAgainst grow techOf lineOf charge penalty base guideAt shortAt sumCost entering
-    clear toward onFrom clearRun otherwise lengthenedBy overheadOf leaving stepping bySegment ifPriced into step priced
-    startAt nothingYet withMade after goOn walk metalAtFirst begun without more joinedBy places joinFrom joinBy segmentCode
+    clear toward onFrom clearRun otherwise lengthenedBy lengthenedOn overheadOf leaving stepping bySegment ifPriced into step priced
+    startAt after goOn walk flatMap metalAtFirst begun without more joinedBy places joinFrom joinBy segmentCode
     entryCost tableCost withinTest settledTest supportedTest movesTest placeTest allBelow allSegments certified
     withRecords afterMoves afterRecord byTable netBy thenNets netsBy answerOf written
 records-of-job = ((costsA, refl), ((costsB, refl), ((costsC, refl), ((costsD, refl), ((costsE, refl), ((costsF, refl), ((costsG, refl), ((costsH, refl), ((costsI, refl), ((costsJ, refl), ((costsK, refl), ((costsL, refl), tt))))))))))))

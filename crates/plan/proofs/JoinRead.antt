@@ -28,7 +28,7 @@ use Rattle.job.proofs.TwoWay.Groups.{inside-fits}
 use Rattle.rules.specs.Tracks.{layerOf, rowOf, columnOf, vertexBy}
 use Rattle.rules.specs.Views.{member, viewOf}
 use Rattle.rules.specs.Prices.{techOf}
-use Rattle.rules.specs.Walks.{walked, startAt}
+use Rattle.rules.specs.Walks.{walked, startAt, walkCost}
 use Rattle.rules.specs.Standings.{Standing, joinedBy, Stands}
 use Rattle.rules.proofs.Vertices.{number-vertex, vertex-number, vertex-below}
 use Rattle.rules.proofs.Techs.{good-tech}
@@ -81,9 +81,9 @@ start-vertex B at g start moves h = λ i. record { layer = h .0 i; row = h .1 .0
 
 -- a join that was read: its bits stand there, it is legal, and the next bit is the one behind it
 pub record JoinAt (B : List ℕ) (j : Job) (k : ℕ) (s : Standing) (at : ℕ) (read : JoinRead) : Type 0 where
-  pub stand : Placed B at (joinBits (j .grid) (read .start) (read .moved .moves) (read .moved .sum .cost))
-  pub legal : LegalJoin j k s (read .start) (read .moved .moves) (read .moved .sum .cost) (joinedBy k s (read .moved .last .vertex) (read .moved .sum))
-  pub next : read .next ≡ at + length (joinBits (j .grid) (read .start) (read .moved .moves) (read .moved .sum .cost))
+  pub stand : Placed B at (joinBits (j .grid) (read .start) (read .moved .moves) (walkCost (read .moved .made)))
+  pub legal : LegalJoin j k s (read .start) (read .moved .moves) (walkCost (read .moved .made)) (joinedBy k s (read .moved .last .vertex) (read .moved .made))
+  pub next : read .next ≡ at + length (joinBits (j .grid) (read .start) (read .moved .moves) (walkCost (read .moved .made)))
 
 module _ (B : List ℕ) (bits : AllBelow 2 B) (j : Job) (k : ℕ) (s : Standing) where
   -- a start with its count stands there and fits, where it is whole and its fields hold its numbers
@@ -109,16 +109,16 @@ module _ (B : List ℕ) (bits : AllBelow 2 B) (j : Job) (k : ℕ) (s : Standing)
       let column : field B (at + 11) 8 ≡ columnOf g start = λ i. sym number i .column in
       let count : length (moved .moves) ≡ n = m .count in
       let head = start-placed at start (moved .moves) .1 (w, (layer, (row, (column, (sym count, tt))))) in
-      let cost = field-placed B (at + 39 + 2 * n) bits 40 (moved .sum .cost) (omega arith) .1 (w40, costs) in
-      let size = length-join g start (moved .moves) (moved .sum .cost) in
+      let cost = field-placed B (at + 39 + 2 * n) bits 40 (walkCost (moved .made)) (omega arith) .1 (w40, costs) in
+      let size = length-join g start (moved .moves) (walkCost (moved .made)) in
       rw (← same) (record {
-        stand = join-placed B at g start (moved .moves) (moved .sum .cost) .1 (head .0, (m .stand, rw count (cost .0)));
+        stand = join-placed B at g start (moved .moves) (walkCost (moved .made)) .1 (head .0, (m .stand, rw count (cost .0)));
         legal = record {
           route = record { onTree = holds _ on-tree; walks = m .route some };
           count = head .1 .1 .1 .1 .0;
           priced = cost .1;
           last = moved .last;
-          sum = moved .sum;
+          made = moved .made;
           walked = m .walks;
           stands = refl;
         };
@@ -131,7 +131,7 @@ abbrev pub readOf : {j : Job} {k : ℕ} {s : Standing} (at : ℕ) {start cost : 
 readOf {j} at {start} {cost} {moves} l =
     record {
       start = start;
-      moved = record { moves = moves; last = l .last; sum = l .sum };
+      moved = record { moves = moves; last = l .last; made = l .made };
       next = at + length (joinBits (j .grid) start moves cost);
     }
 
@@ -143,12 +143,12 @@ module _ {j : Job} (good-j : GoodJob j) (k : ℕ) (s : Standing) (apart : Stands
 
   -- the walk of a legal join ends at an unjoined pin, and costs what is recorded
   pub legal-walk : {start cost : ℕ} {moves : List ℕ} {next : Standing} (l : LegalJoin j k s start moves cost next)
-      → (member (l .last .vertex) (s .unjoined) ≡ true) × (l .sum .cost ≡ cost)
+      → (member (l .last .vertex) (s .unjoined) ≡ true) × (walkCost (l .made) ≡ cost)
   legal-walk {start} l =
       let w = route-walk (good-tech good-j) (viewOf j k (s .metal)) (apart .onGrid start (l .route .onTree)) (l .route) in
-      let is : walked (w .last) (w .sum) ≡ walked (l .last) (l .sum) = sym (w .does) ∙ l .walked in
+      let is : walked (w .last) (w .made) ≡ walked (l .last) (l .made) = sym (w .does) ∙ l .walked in
       let place : w .last ≡ l .last = cc in
-      let all : w .sum ≡ l .sum = cc in
+      let all : w .made ≡ l .made = cc in
       (rw place at (w .ends), rw all at (w .cost))
 
   -- a legal join is read as good
@@ -178,9 +178,9 @@ module _ {j : Job} (good-j : GoodJob j) (k : ℕ) (s : Standing) (apart : Stands
           (
             some,
             (
-              record { moves = moves; last = l .last; sum = l .sum },
+              record { moves = moves; last = l .last; made = l .made },
               reads,
-              (last .0, (rw costs (last .1), λ i. record { start = start; moved = record { moves = moves; last = l .last; sum = l .sum }; next = end i })),
+              (last .0, (rw costs (last .1), λ i. record { start = start; moved = record { moves = moves; last = l .last; made = l .made }; next = end i })),
             ),
           ),
         ),

@@ -27,8 +27,8 @@ use Rattle.paths.specs.Rivals.{Route as RouteFrom}
 use Rattle.rules.specs.Views.{View, member}
 use Rattle.rules.specs.Segments.{Place}
 use Rattle.rules.specs.Prices.{Tech}
-use Rattle.rules.specs.Steps.{Made, Stepped, illegal, legal, step, priced}
-use Rattle.rules.specs.Walks.{system, walked, Sum, nothingYet, withMade, walk}
+use Rattle.rules.specs.Steps.{Made, Stepped, illegal, legal, step, priceOf, priced}
+use Rattle.rules.specs.Walks.{system, walked, walk, total, walkCost}
 use Rattle.rules.proofs.Members.{not-both}
 use Rattle.rules.proofs.Walks.{walk-on, walk-first}
 use Rattle.plan.specs.Reading.{Moved, withMove, agree, judged, readMoves}
@@ -82,8 +82,8 @@ judged-good at last unjoined (legal m) made =
 pub record MovesAt (B : List ℕ) (t : Tech) (view : View) (unjoined : List ℕ) (n at : ℕ) (p : Place) (moved : Moved) : Type 0 where
   pub stand : Placed B at (flatMap (fieldBits 2) (moved .moves))
   pub count : length (moved .moves) ≡ n
-  pub walks : walk t view p (moved .moves) ≡ walked (moved .last) (moved .sum)
-  pub route : 1 ≤ n → RouteFrom (system t view unjoined) p (moved .moves) (moved .sum .cost)
+  pub walks : walk t view p (moved .moves) ≡ walked (moved .last) (moved .made)
+  pub route : 1 ≤ n → RouteFrom (system t view unjoined) p (moved .moves) (walkCost (moved .made))
 
 module _ (B : List ℕ) (bits : AllBelow 2 B) (t : Tech) (view : View) (unjoined : List ℕ) where
   -- one move and the rest
@@ -96,7 +96,7 @@ module _ (B : List ℕ) (bits : AllBelow 2 B) (t : Tech) (view : View) (unjoined
 
   -- a move is one of the four and leads on
   leads : (at : ℕ) (p : Place) (m : ℕ) (made : Made) → m < 4 → step t view p m ≡ legal made
-      → Legal (system t view unjoined) p m (made .enter + made .over) (made .next)
+      → Legal (system t view unjoined) p m (priceOf made) (made .next)
   unfolding priced
   leads at p m made small is = record { known = small; leads = rw is }
 
@@ -104,11 +104,11 @@ module _ (B : List ℕ) (bits : AllBelow 2 B) (t : Tech) (view : View) (unjoined
   route-of : (n at : ℕ) (p : Place) (m : ℕ) (made : Made) (rest : Moved) → m < 4 → step t view p m ≡ legal made
       → member (made .next .vertex) unjoined ≡ eqb n 0 → readMoves B t view unjoined n (at + 2) (made .next) ≡ good rest
       → MovesAt B t view unjoined n (at + 2) (made .next) rest
-      → RouteFrom (system t view unjoined) p (m ∷ rest .moves) (made .enter + made .over + rest .sum .cost)
-  unfolding readMoves nothingYet
+      → RouteFrom (system t view unjoined) p (m ∷ rest .moves) (priceOf made + walkCost (rest .made))
+  unfolding readMoves total
   route-of zero at p m made rest small is ends read next =
-      let same : _≡_ {A = Moved} (record { moves = []; last = made .next; sum = nothingYet }) rest = cc in
-      subst (λ (r : Moved). RouteFrom (system t view unjoined) p (m ∷ r .moves) (made .enter + made .over + r .sum .cost)) same
+      let same : _≡_ {A = Moved} (record { moves = []; last = made .next; made = [] }) rest = cc in
+      subst (λ (r : Moved). RouteFrom (system t view unjoined) p (m ∷ r .moves) (priceOf made + walkCost (r .made))) same
       (rw add-zero (RouteFrom.enters (leads at p m made small is) ends))
   route-of (suc n) at p m made rest small is ends read next =
       RouteFrom.walks (leads at p m made small is) (ends ∙ no-more (suc n) (omega arith)) (next .route (omega arith))
@@ -117,7 +117,7 @@ module _ (B : List ℕ) (bits : AllBelow 2 B) (t : Tech) (view : View) (unjoined
   more-good : (n at : ℕ) (p : Place) (moved : Moved) → readMoves B t view unjoined (suc n) at p ≡ good moved
       → ((q : Place) (rest : Moved) → readMoves B t view unjoined n (at + 2) q ≡ good rest → MovesAt B t view unjoined n (at + 2) q rest)
       → MovesAt B t view unjoined (suc n) at p moved
-  unfolding withMove withMade flatMap
+  unfolding withMove total flatMap
   more-good n at p moved e rest-good =
       let (w, (made, (is, ends), (rest, read, same))) = more-read n at p moved .0 e in
       let m = field B at 2 in
@@ -136,19 +136,19 @@ module _ (B : List ℕ) (bits : AllBelow 2 B) (t : Tech) (view : View) (unjoined
       → MovesAt B t view unjoined n at p moved
   unfolding readMoves flatMap walk
   moves-good zero at p moved e =
-      let same : _≡_ {A = Moved} (record { moves = []; last = p; sum = nothingYet }) moved = cc in
+      let same : _≡_ {A = Moved} (record { moves = []; last = p; made = [] }) moved = cc in
       rw (← same) (record { stand = placed-nil B at; count = refl; walks = refl; route = λ h. absurd (omega arith) })
   moves-good (suc n) at p moved e = more-good n at p moved e (λ q rest read. moves-good n (at + 2) q rest read)
 
   -- one move of a route, where the rest is read as good
-  more-route : (at : ℕ) (p q : Place) (m c : ℕ) (ms : List ℕ) {last : Place} {sum : Sum} → Legal (system t view unjoined) p m c q
+  more-route : (at : ℕ) (p q : Place) (m c : ℕ) (ms : List ℕ) {last : Place} {made : List Made} → Legal (system t view unjoined) p m c q
       → member (q .vertex) unjoined ≡ eqb (length ms) 0 → Placed B at (flatMap (fieldBits 2) (m ∷ ms))
-      → walk t view p (m ∷ ms) ≡ walked last sum
-      → ((rest : Sum) → Placed B (at + 2) (flatMap (fieldBits 2) ms) → walk t view q ms ≡ walked last rest
-      → readMoves B t view unjoined (length ms) (at + 2) q ≡ good (record { moves = ms; last = last; sum = rest }))
-      → readMoves B t view unjoined (length (m ∷ ms)) at p ≡ good (record { moves = m ∷ ms; last = last; sum = sum })
+      → walk t view p (m ∷ ms) ≡ walked last made
+      → ((rest : List Made) → Placed B (at + 2) (flatMap (fieldBits 2) ms) → walk t view q ms ≡ walked last rest
+      → readMoves B t view unjoined (length ms) (at + 2) q ≡ good (record { moves = ms; last = last; made = rest }))
+      → readMoves B t view unjoined (length (m ∷ ms)) at p ≡ good (record { moves = m ∷ ms; last = last; made = made })
   unfolding flatMap priced withMove
-  more-route at p q m c ms {last} {sum} move ends stand walks rest-good =
+  more-route at p q m c ms {last} {made} move ends stand walks rest-good =
       let first = walk-first t view p m ms walks in
       let both = placed-append B at (fieldBits 2 m) (flatMap (fieldBits 2) ms) .0 stand in
       let here = field-placed B at bits 2 m (omega arith) .0 (both .0, move .known) in
@@ -158,24 +158,24 @@ module _ (B : List ℕ) (bits : AllBelow 2 B) (t : Tech) (view : View) (unjoined
       let place : first .made .next ≡ q = cc in
       let goes = rw place at (first .goes) in
       let read = rest-good (first .rest) (rw next at (both .1)) goes in
-      more-read (length ms) at p (record { moves = m ∷ ms; last = last; sum = sum }) .1 (
+      more-read (length ms) at p (record { moves = m ∷ ms; last = last; made = made }) .1 (
         here .0,
         (
           first .made,
           (rw (here .1) is, rw place ends),
           (
-            record { moves = ms; last = last; sum = first .rest },
+            record { moves = ms; last = last; made = first .rest },
             rw place read,
-            rw (here .1) (λ i. record { moves = m ∷ ms; last = last; sum = sym (first .sums) i }),
+            rw (here .1) (λ i. record { moves = m ∷ ms; last = last; made = sym (first .sums) i }),
           ),
         ),
       )
 
   -- no move
-  none-read : (at : ℕ) (q : Place) {l : Place} (rest : Sum) → walk t view q [] ≡ walked l rest
-      → readMoves B t view unjoined 0 at q ≡ good (record { moves = []; last = l; sum = rest })
+  none-read : (at : ℕ) (q : Place) {l : Place} (rest : List Made) → walk t view q [] ≡ walked l rest
+      → readMoves B t view unjoined 0 at q ≡ good (record { moves = []; last = l; made = rest })
   unfolding readMoves walk
-  none-read at q {l} rest w = let a : q ≡ l = cc in let b : nothingYet ≡ rest = cc in rw (a, b)
+  none-read at q {l} rest w = let a : q ≡ l = cc in let b : [] ≡ rest = cc in rw (a, b)
 
   -- a route has a move
   pub route-some : {p : Place} {ms : List ℕ} {c : ℕ} → RouteFrom (system t view unjoined) p ms c → 1 ≤ length ms
@@ -183,9 +183,9 @@ module _ (B : List ℕ) (bits : AllBelow 2 B) (t : Tech) (view : View) (unjoined
   route-some (RouteFrom.walks move no-goal r) = omega arith
 
   -- the moves of a route are read as good
-  pub route-read : {p : Place} {ms : List ℕ} {c : ℕ} → RouteFrom (system t view unjoined) p ms c → (at : ℕ) {last : Place} {sum : Sum}
-      → Placed B at (flatMap (fieldBits 2) ms) → walk t view p ms ≡ walked last sum
-      → readMoves B t view unjoined (length ms) at p ≡ good (record { moves = ms; last = last; sum = sum })
+  pub route-read : {p : Place} {ms : List ℕ} {c : ℕ} → RouteFrom (system t view unjoined) p ms c → (at : ℕ) {last : Place} {made : List Made}
+      → Placed B at (flatMap (fieldBits 2) ms) → walk t view p ms ≡ walked last made
+      → readMoves B t view unjoined (length ms) at p ≡ good (record { moves = ms; last = last; made = made })
   route-read (RouteFrom.enters {s = p} {t = q} {m = m} {p = price} move goal) at stand walks =
       more-route at p q m price [] move goal stand walks (λ rest st w. none-read (at + 2) q rest w)
   route-read (RouteFrom.walks {s = p} {t = q} {m = m} {p = price} {c = c} {ms = ms} move no-goal r) at stand walks =

@@ -19,6 +19,7 @@ use Rattle.job.specs.Reading.{Read, good, _>>=_, _>>_}
 use Rattle.job.proofs.Binds.{rule-good, then-good, bind-good}
 use Rattle.job.proofs.TwoWay.Places.{Placed, placed-nil, placed-append}
 use Rattle.rules.specs.Prices.{techOf}
+use Rattle.rules.specs.Walks.{walkCost}
 use Rattle.rules.specs.Standings.{Standing, joinedBy, Stands}
 use Rattle.rules.specs.Joins.{join, none}
 use Rattle.rules.specs.Routings.{Entry, Totals, withJoin, withNet}
@@ -67,16 +68,16 @@ endedAt k s totals at =
 
 -- the entry of a join that was read
 abbrev joinedEntry : (k : ℕ) → Standing → JoinRead → Entry
-joinedEntry k s read = record { net = k; before = s; written = join (read .start) (read .moved .moves) (read .moved .sum .cost) }
+joinedEntry k s read = record { net = k; before = s; written = join (read .start) (read .moved .moves) (walkCost (read .moved .made)) }
 
 -- what stands after it
 abbrev joinedStanding : (k : ℕ) → Standing → JoinRead → Standing
-joinedStanding k s read = joinedBy k s (read .moved .last .vertex) (read .moved .sum)
+joinedStanding k s read = joinedBy k s (read .moved .last .vertex) (read .moved .made)
 
 -- what is read after a join
 abbrev goesOn : (B : List ℕ) → Job → (k n : ℕ) → Standing → Totals → JoinRead → Read Progress
 goesOn B j k n s totals read =
-    _>>=_ (readNet B j k n (joinedStanding k s read) (withJoin totals (read .moved .sum)) (read .next)) (λ rest. good (before (joinedEntry k s read) rest))
+    _>>=_ (readNet B j k n (joinedStanding k s read) (withJoin totals (read .moved .made)) (read .next)) (λ rest. good (before (joinedEntry k s read) rest))
 
 -- the records of a net that were read: its entries, their bits stand there, and the next bit is the one
 -- behind them
@@ -89,7 +90,7 @@ pub record NetAt (B : List ℕ) (j : Job) (k : ℕ) (s : Standing) (at : ℕ) (p
 unfoldable pub netTotals : {j : Job} {k : ℕ} {s : Standing} {es : List Entry} {metal : List (List ℕ)} → NetEntries j k s es metal → Totals → Totals
 netTotals (allJoined all left) totals = withNet totals
 netTotals (gaveUp some is left) totals = totals
-netTotals (joins l is rest) totals = netTotals rest (withJoin totals (l .sum))
+netTotals (joins l is rest) totals = netTotals rest (withJoin totals (l .made))
 
 -- what is read where these entries stand from a bit on
 abbrev pub readTo : Grid → (at : ℕ) → List Entry → (metal : List (List ℕ)) → Totals → Progress
@@ -122,7 +123,7 @@ module _ (B : List ℕ) (bits : AllBelow 2 B) {j : Job} (good-j : GoodJob j) (k 
       let g = j .grid in
       let start = read .start in
       let moves = read .moved .moves in
-      let cost = read .moved .sum .cost in
+      let cost = walkCost (read .moved .made) in
       let size = length-record g start moves cost (entryBits g (rest .entries)) in
       rw (← same) (record {
         entries = joins (one .legal) refl (after .entries);
@@ -144,7 +145,7 @@ module _ (B : List ℕ) (bits : AllBelow 2 B) {j : Job} (good-j : GoodJob j) (k 
       ended-good s totals at p some (field-placed B at bits 1 0 (omega arith) .1 (w, flag) .0) same
   flagged-good n s totals at p apart few some w (inr (flag, (read, reads, goes))) rest-good =
       let one = join-good B bits j k s (at + 1) read reads in
-      let (rest, rests, same) = bind-good (readNet B j k n (joinedStanding k s read) (withJoin totals (read .moved .sum)) (read .next)) _ p .0 goes in
+      let (rest, rests, same) = bind-good (readNet B j k n (joinedStanding k s read) (withJoin totals (read .moved .made)) (read .next)) _ p .0 goes in
       let fewer = legal-fewer good-j k s apart (one .legal) in
       let after = rest-good (joinedStanding k s read) _ (read .next) rest (legal-apart good-j k s apart (one .legal)) (omega arith) rests in
       joined-good s at p read rest (field-placed B at bits 1 1 (omega arith) .1 (w, flag) .0) one after (cc)
@@ -201,7 +202,7 @@ module _ (B : List ℕ) (bits : AllBelow 2 B) {j : Job} (good-j : GoodJob j) (k 
       {metal : List (List ℕ)} {end : Totals} (l : LegalJoin j k s start moves cost after) → Stands (techOf j) s → length (s .unjoined) ≤ n
       → Placed B at (entryBits (j .grid) (record { net = k; before = s; written = join start moves cost } ∷ es))
       → ((n at : ℕ) → Stands (techOf j) after → length (after .unjoined) ≤ n → Placed B at (entryBits (j .grid) es)
-      → readNet B j k n after (withJoin totals (l .sum)) at ≡ good (readTo (j .grid) at es metal end))
+      → readNet B j k n after (withJoin totals (l .made)) at ≡ good (readTo (j .grid) at es metal end))
       → readNet B j k n s totals at ≡ good (readTo (j .grid) at (record { net = k; before = s; written = join start moves cost } ∷ es) metal end)
   unfolding byFlag flatMap before
   joined-read zero s totals at l apart few stand rest-read = absurd (omega (arith, legal-fewer good-j k s apart l))
@@ -217,9 +218,9 @@ module _ (B : List ℕ) (bits : AllBelow 2 B) {j : Job} (good-j : GoodJob j) (k 
       let p = readTo g at (record { net = k; before = s; written = join start moves cost } ∷ es) metal end in
       let next : read .next + length (entryBits g es) ≡ p .at = omega (arith, length-record g start moves cost (entryBits g es)) in
       let goes : goesOn B j k n s totals read ≡ good p =
-      bind-good (readNet B j k n (joinedStanding k s read) (withJoin totals (l .sum)) (read .next)) _ p .1 (
+      bind-good (readNet B j k n (joinedStanding k s read) (withJoin totals (l .made)) (read .next)) _ p .1 (
         readTo g (read .next) es metal end,
-        ap (λ (x : Standing). readNet B j k n x (withJoin totals (l .sum)) (read .next)) (sym (l .stands)) ∙ rest,
+        ap (λ (x : Standing). readNet B j k n x (withJoin totals (l .made)) (read .next)) (sym (l .stands)) ∙ rest,
         λ i. good (record {
           entries = record { net = k; before = s; written = join start moves (costs i) } ∷ es;
           metal = metal;
@@ -239,4 +240,4 @@ module _ (B : List ℕ) (bits : AllBelow 2 B) {j : Job} (good-j : GoodJob j) (k 
   net-read (allJoined {s = s} all left) totals n at apart few stand = rw left (none-read n s totals at all)
   net-read (gaveUp {s = s} some is left) totals n at apart few stand = rw (is, left) (ended-read n s totals at some few (rw is at stand))
   net-read (joins {s = s} l is rest) totals n at apart few stand =
-      rw is (joined-read n s totals at l apart few (rw is at stand) (net-read rest (withJoin totals (l .sum))))
+      rw is (joined-read n s totals at l apart few (rw is at stand) (net-read rest (withJoin totals (l .made))))

@@ -70,12 +70,12 @@ module _ {j : Job} (good-j : GoodJob j) where
       let fits = join-fits tech view apart is in
       let w = route-walk tech view (apart .onGrid start (route .onTree)) route in
       let fewer = without-shorter (w .last .vertex) (s .unjoined) (w .ends) in
-      let after = joinedBy k s (w .last .vertex) (w .sum) in
+      let after = joinedBy k s (w .last .vertex) (w .made) in
       let left = joined-apart k s tech apart route (w .does) in
-      let (others, ends) = follows after (withJoin totals (w .sum)) left (omega arith) in
+      let (others, ends) = follows after (withJoin totals (w .made)) left (omega arith) in
       rw (w .does) (
         joins
-            (record { route = route; count = fits .0; priced = fits .1; last = w .last; sum = w .sum; walked = w .does; stands = refl })
+            (record { route = route; count = fits .0; priced = fits .1; last = w .last; made = w .made; walked = w .does; stands = refl })
             refl
             others,
         ends,

@@ -9,7 +9,8 @@ use Rattle.job.specs.Job.{Net, Job}
 use Rattle.rules.specs.Views.{pinsOf, viewOf}
 use Rattle.rules.specs.Segments.{Place}
 use Rattle.rules.specs.Prices.{techOf}
-use Rattle.rules.specs.Walks.{Route, walked, Sum, startAt, walk}
+use Rattle.rules.specs.Steps.{Made}
+use Rattle.rules.specs.Walks.{Route, startAt, walked, walk}
 use Rattle.rules.specs.Standings.{Standing, metalAtFirst, begun, joinedBy}
 use Rattle.rules.specs.Joins.{join, none}
 use Rattle.rules.specs.Routings.{Entry}
@@ -21,9 +22,9 @@ pub record LegalJoin (j : Job) (k : ℕ) (s : Standing) (start : ℕ) (moves : L
   pub count : length moves < 2 ^ 20
   pub priced : cost < 2 ^ 40
   pub last : Place
-  pub sum : Sum
-  pub walked : walk (techOf j) (viewOf j k (s .metal)) (startAt start) moves ≡ walked last sum
-  pub stands : after ≡ joinedBy k s (last .vertex) sum
+  pub made : List Made
+  pub walked : walk (techOf j) (viewOf j k (s .metal)) (startAt start) moves ≡ walked last made
+  pub stands : after ≡ joinedBy k s (last .vertex) made
 
 -- the entries of net k, from what stands to the metal that it leaves: joins until all pins are joined, or one
 -- none at the end; before each stands what the earlier ones make

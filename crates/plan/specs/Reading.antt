@@ -17,7 +17,7 @@ use Rattle.rules.specs.Views.{View, member, pinsOf, viewOf}
 use Rattle.rules.specs.Segments.{Place}
 use Rattle.rules.specs.Prices.{Tech, techOf}
 use Rattle.rules.specs.Steps.{Made, Stepped, illegal, legal, step}
-use Rattle.rules.specs.Walks.{Sum, nothingYet, withMade, startAt}
+use Rattle.rules.specs.Walks.{startAt, walkCost}
 use Rattle.rules.specs.Standings.{Standing, metalAtFirst, begun, joinedBy}
 use Rattle.rules.specs.Joins.{join, none}
 use Rattle.rules.specs.Routings.{Entry, Totals, noTotals, withJoin, withNet, Routed}
@@ -30,11 +30,11 @@ group bits at width = rule 15 at (whole bits at width)
 pub record Moved : Type 0 where
   pub moves : List ℕ
   pub last : Place
-  pub sum : Sum
+  pub made : List Made
 
 -- a move before those that follow it
 unfoldable pub withMove : (m : ℕ) → Made → Moved → Moved
-withMove m made rest = record { moves = m ∷ rest .moves; last = rest .last; sum = withMade made (rest .sum) }
+withMove m made rest = record { moves = m ∷ rest .moves; last = rest .last; made = made ∷ rest .made }
 
 -- both tests hold, or neither
 unfoldable pub agree : Bool → Bool → Bool
@@ -50,7 +50,7 @@ judged at last unjoined (legal made) = do
   good made
 
 unfoldable pub readMoves : (bits : List ℕ) → Tech → View → (unjoined : List ℕ) → (n at : ℕ) → Place → Read Moved
-readMoves bits t view unjoined zero at p = good (record { moves = []; last = p; sum = nothingYet })
+readMoves bits t view unjoined zero at p = good (record { moves = []; last = p; made = [] })
 readMoves bits t view unjoined (suc n) at p = do
   group bits at 2
   made ← judged at (eqb n 0) unjoined (step t view p (field bits at 2))
@@ -83,7 +83,7 @@ readJoin bits j k s at = do
   let costAt = at + 39 + 2 * field bits (at + 19) 20
   moved ← readMoves bits (techOf j) (viewOf j k (s .metal)) (s .unjoined) (field bits (at + 19) 20) (at + 39) (startAt start)
   group bits costAt 40
-  rule 18 costAt (eqb (field bits costAt 40) (moved .sum .cost))
+  rule 18 costAt (eqb (field bits costAt 40) (walkCost (moved .made)))
   good (record { start = start; moved = moved; next = costAt + 40 })
 
 -- "bit 0 where there is none, which ends the net", or a join and what follows it
@@ -109,8 +109,8 @@ readNet bits j k (suc n) s totals at =
           (record { entries = record { net = k; before = s; written = none } ∷ []; metal = s .metal; totals = totals; at = at + 1 })
           (readJoin bits j k s (at + 1))
           (λ read. do
-            rest ← readNet bits j k n (joinedBy k s (read .moved .last .vertex) (read .moved .sum)) (withJoin totals (read .moved .sum)) (read .next)
-            good (before (record { net = k; before = s; written = join (read .start) (read .moved .moves) (read .moved .sum .cost) }) rest))
+            rest ← readNet bits j k n (joinedBy k s (read .moved .last .vertex) (read .moved .made)) (withJoin totals (read .moved .made)) (read .next)
+            good (before (record { net = k; before = s; written = join (read .start) (read .moved .moves) (walkCost (read .moved .made)) }) rest))
 
 unfoldable pub readNets : (bits : List ℕ) → Job → (k : ℕ) → List Net → (metal : List (List ℕ)) → Totals → (at : ℕ) → Read Progress
 readNets bits j k [] metal totals at = good (record { entries = []; metal = metal; totals = totals; at = at })

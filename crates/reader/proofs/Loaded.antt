@@ -40,7 +40,7 @@ module _ (B : List ℕ) (bits : AllBelow 2 B) (g : Grid) (small : GoodGrid g) wh
   -- boxes whose bits stand there are loaded as their numbers, one box after the other
   boxes-loaded : (at : ℕ) (bs : List Box) → Placed B at (flatMap boxBits bs) → All (λ b. T (goodBox g b)) bs
       → boxesNumbers B (length bs) at ≡ flatMap boxNumbers bs
-  unfolding flatMap All boxesNumbers flatMap
+  unfolding flatMap All boxesNumbers
   boxes-loaded at [] p h = refl
   boxes-loaded at (b ∷ bs) p h =
       let (first, rest) = placed-append B at (boxBits b) (flatMap boxBits bs) .0 p in

@@ -18,7 +18,7 @@ use Rattle.job.proofs.Grids.{number-below}
 use Rattle.rules.specs.Views.{member, viewOf}
 use Rattle.rules.specs.Prices.{techOf}
 use Rattle.rules.specs.Places.{GoodSegment, GoodPlace}
-use Rattle.rules.specs.Walks.{Sum, nothingYet, startAt, walked}
+use Rattle.rules.specs.Walks.{startAt, walked, walkCost, verticesOf}
 use Rattle.rules.specs.Standings.{Standing, joinedBy, Stands}
 use Rattle.rules.proofs.Techs.{good-tech}
 use Rattle.rules.proofs.Walks.{route-walk}
@@ -28,7 +28,6 @@ use Rattle.tree.specs.Spots.{Spots}
 use Rattle.tree.proofs.Spots.{spot-tree}
 use Rattle.walker.specs.Entering.{Arrays, goneAt}
 use Rattle.walker.specs.Standing.{Stood}
-use Rattle.walker.proofs.Sums.{nothing-plus}
 use Rattle.walker.proofs.Standing.{walkedBy, stood-begun, stood-joined, end-entered}
 use Rattle.replay.specs.Following.{movesFrom, Start, readStart, readCost, Joined, costFrom, joinFrom}
 use Rattle.replay.proofs.Follow.{Follow, bothGood, then-assoc, follow-on, follow-read}
@@ -37,8 +36,8 @@ use Rattle.replay.proofs.MovesFollow.{moves-follow}
 -- both have the same join, and the arrays stand for what it leaves
 abbrev pub JoinMeet : Grid → (k : ℕ) → Standing → JoinRead → Joined → Arrays → Type 0
 JoinMeet g k s read joined arrays =
-    (joined ≡ record { gone = record { place = read .moved .last; sum = read .moved .sum }; next = read .next })
-    × Stood g (joinedBy k s (read .moved .last .vertex) (read .moved .sum)) arrays
+    (joined ≡ record { gone = record { place = read .moved .last; made = read .moved .made }; next = read .next })
+    × Stood g (joinedBy k s (read .moved .last .vertex) (read .moved .made)) arrays
 
 -- the start is on the tree by its byte as by the list
 start-same : (g : Grid) (tree unjoined spots bits : List ℕ) (at : ℕ) → Spots g tree unjoined spots
@@ -55,13 +54,13 @@ module _ (B : List ℕ) (bits : AllBelow 2 B) {j : Job} (good-j : GoodJob j) (k 
   -- the end of the moves is among the vertices that they enter
   moves-end : (start n at : ℕ) (moved : Moved) → member start (s .tree) ≡ true → 1 ≤ n
       → readMoves B (techOf j) (viewOf j k (s .metal)) (s .unjoined) n at (startAt start) ≡ good moved
-      → member (moved .last .vertex) (s .tree ++ moved .sum .vertices) ≡ true
+      → member (moved .last .vertex) (s .tree ++ verticesOf (moved .made)) ≡ true
   moves-end start n at moved on some reads =
       let m = moves-good B bits (techOf j) (viewOf j k (s .metal)) (s .unjoined) n at (startAt start) moved reads in
       let w = route-walk (good-tech good-j) (viewOf j k (s .metal)) {tree = s .tree} (apart .onGrid start on) (record { onTree = on; walks = m .route some }) in
-      let is : walked (w .last) (w .sum) ≡ walked (moved .last) (moved .sum) = sym (w .does) ∙ m .walks in
+      let is : walked (w .last) (w .made) ≡ walked (moved .last) (moved .made) = sym (w .does) ∙ m .walks in
       let place : w .last ≡ moved .last = cc in
-      let all : w .sum ≡ moved .sum = cc in
+      let all : w .made ≡ moved .made = cc in
       rw (place, all) at (end-entered (w .last .vertex) (s .tree) (w .way) (w .enters))
 
   -- a join's start is a good place
@@ -73,14 +72,14 @@ module _ (B : List ℕ) (bits : AllBelow 2 B) {j : Job} (good-j : GoodJob j) (k 
   after-start : (at : ℕ) → Start → Read JoinRead
   after-start at start = do
     moved ← readMoves B (techOf j) (viewOf j k (s .metal)) (s .unjoined) (start .moves) (at + 39) (startAt (start .vertex))
-    next ← readCost B (at + 39 + 2 * start .moves) (moved .sum .cost)
+    next ← readCost B (at + 39 + 2 * start .moves) (walkCost (moved .made))
     good (record { start = start .vertex; moved = moved; next = next })
 
   -- the cost after moves, as it is read and by its own function
   cost-form : (start at : ℕ) (moved : Moved)
       → _≡_ {A = Read JoinRead}
-      (_>>_ (group B at 40) (_>>_ (rule 18 at (eqb (field B at 40) (moved .sum .cost))) (good (record { start = start; moved = moved; next = at + 40 }))))
-      (_>>=_ (readCost B at (moved .sum .cost)) (λ next. good (record { start = start; moved = moved; next = next })))
+      (_>>_ (group B at 40) (_>>_ (rule 18 at (eqb (field B at 40) (walkCost (moved .made)))) (good (record { start = start; moved = moved; next = at + 40 }))))
+      (_>>=_ (readCost B at (walkCost (moved .made))) (λ next. good (record { start = start; moved = moved; next = next })))
   unfolding readCost _>>=_
   cost-form start at moved = rw (then-assoc, then-assoc) refl
 
@@ -115,19 +114,17 @@ module _ (B : List ℕ) (bits : AllBelow 2 B) {j : Job} (good-j : GoodJob j) (k 
       → Follow (JoinMeet (j .grid) k s) (after-start at start)
       (costFrom B (at + 39 + 2 * start .moves)
       (movesFrom B (techOf j) (viewOf j k (s .metal)) (suc k) (start .moves) (at + 39) (goneAt (start .vertex)) arrays))
-  unfolding after-start goneAt nothingYet techOf costFrom
+  unfolding after-start goneAt techOf costFrom
   start-follow at start arrays known on some stood =
       follow-on (JoinMeet (j .grid) k s) _ _
       (moves-follow B (viewOf j k (s .metal)) (good-tech good-j) k s (start .moves) known (at + 39) (goneAt (start .vertex)) arrays
       (start-good (start .vertex) (apart .onGrid (start .vertex) on)) (λ h v e. apart .noGoal v (rw append-nil at e)) (stood-begun (j .grid) k s arrays stood))
       (λ moved gone after reads (is, st).
-      let sum = nothing-plus (moved .sum) in
-      let end : gone ≡ record { place = moved .last; sum = moved .sum } = is ∙ (λ i. record { place = moved .last; sum = sum i }) in
-      rw end (follow-read (JoinMeet (j .grid) k s) (readCost B (at + 39 + 2 * start .moves) (moved .sum .cost)) after _ _ (λ next e.
+      rw is (follow-read (JoinMeet (j .grid) k s) (readCost B (at + 39 + 2 * start .moves) (walkCost (moved .made))) after _ _ (λ next e.
       bothGood refl refl (
         refl,
-        stood-joined (j .grid) k s (moved .sum) (moved .last .vertex) after (moves-end (start .vertex) (start .moves) (at + 39) moved on some reads)
-            (subst (λ (z : Sum). Stood (j .grid) (walkedBy k s z) after) sum st),
+        stood-joined (j .grid) k s (moved .made) (moved .last .vertex) after (moves-end (start .vertex) (start .moves) (at + 39) moved on some reads)
+            st,
       ))))
 
   -- the law

@@ -16,6 +16,7 @@ use Rattle.job.specs.Reading.{Read, refused, good, vertexAt}
 use Rattle.job.proofs.Tests.{tests}
 use Rattle.job.proofs.Binds.{steps}
 use Rattle.job.proofs.Grids.{number-below}
+use Rattle.rules.specs.Walks.{walkCost}
 use Rattle.rules.specs.Views.{View}
 use Rattle.rules.specs.Prices.{Tech}
 use Rattle.occupants.specs.declared.reached.Reached.{Reached}
@@ -82,7 +83,7 @@ module _ (bits : List ℕ) (at : ℕ) where
   pub cost-arrays : (x : Came Gone) → arraysOf (costFrom bits at x) ≡ arraysOf x
   unfolding costFrom andOn andRead arraysOf
   cost-arrays (stopped m q arrays) = refl
-  cost-arrays (came gone arrays) = by (readCost bits at (gone .sum .cost))
+  cost-arrays (came gone arrays) = by (readCost bits at (walkCost (gone .made)))
     where
       by : (c : Read ℕ) → arraysOf (andRead {B = Joined} arrays c (λ next. came (record { gone = gone; next = next }) arrays)) ≡ arrays
       by (refused n p) = refl

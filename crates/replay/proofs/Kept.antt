@@ -67,14 +67,14 @@ module _ (bits : List ℕ) (below : AllBelow 2 bits) {t : Tech} (view : View) (n
       bySome (someUnjoined (arrays .spots) pins) (λ at totals arrays. net-kept pins n at totals arrays)
     where
       records : Joined → Arrays → Came Ended
-      records joined after = netFrom bits t view net pins n (joined .next) (withJoin totals (joined .gone .sum)) after
+      records joined after = netFrom bits t view net pins n (joined .next) (withJoin totals (joined .gone .made)) after
 
       Rest : Type 0
       Rest = (at : ℕ) (totals : Totals) (arrays : Arrays) → Keeps arrays (netFrom bits t view net pins n at totals arrays)
 
       byJoin : Rest → (x : Came Joined) → Keeps arrays x → Keeps arrays (andOn x records)
       byJoin rest (stopped m q after) kept = kept
-      byJoin rest (came joined after) kept = beyond-trans (rest (joined .next) (withJoin totals (joined .gone .sum)) after) kept
+      byJoin rest (came joined after) kept = beyond-trans (rest (joined .next) (withJoin totals (joined .gone .made)) after) kept
 
       byFlagged : Rest → (flag : ℕ)
           → Keeps arrays (byFlag flag (came (record { totals = totals; next = at + 1 }) arrays) (andOn (joinFrom bits t view net (at + 1) arrays) records))

@@ -5,7 +5,7 @@
 use Prim.Native.Nat.{ℕ, zero, suc, _+_, _≤_, _<_}
 use mathlib.Core.Path.{_≡_, refl, sym, ap, subst, _∙_}
 use mathlib.Core.Logic.{_⊎_, inl, inr}
-use mathlib.Core.List.{List, [], _∷_, _++_}
+use mathlib.Core.List.{List, [], _∷_, _++_, append-assoc, append-nil}
 use mathlib.Core.Bool.{Bool, true, false, _||_, or-true}
 use native.Mathlib.Omega.{arith}
 use lib.ListN.{length}
@@ -20,16 +20,16 @@ use Rattle.rules.specs.Segments.{Place}
 use Rattle.rules.specs.Prices.{Tech}
 use Rattle.rules.specs.Places.{GoodTech, GoodPlace}
 use Rattle.rules.specs.Steps.{Made, Stepped, illegal, legal, step}
-use Rattle.rules.specs.Walks.{Sum}
+use Rattle.rules.specs.Walks.{verticesOf}
 use Rattle.rules.specs.Standings.{Standing}
 use Rattle.rules.proofs.Members.{member-append, member-both, member-here}
 use Rattle.plan.specs.Reading.{group, agree, Moved, withMove, judged, readMoves}
 use Rattle.plan.proofs.Moves.{judged-good}
 use Rattle.tree.specs.Spots.{Spots}
 use Rattle.tree.proofs.Spots.{spot-goal}
-use Rattle.walker.specs.Entering.{Arrays, enterBy, Gone, thenMade, goneOn}
+use Rattle.walker.specs.Entering.{Arrays, enterBy, Gone, goneOn}
 use Rattle.walker.specs.Standing.{Stood}
-use Rattle.walker.proofs.Sums.{plusSum, then-sum, plus-nothing}
+use Rattle.walker.proofs.Sums.{vertices-then}
 use Rattle.walker.proofs.Standing.{walkedBy, stood-entered}
 use Rattle.walker.proofs.Landing.{Lands, step-lands}
 use Rattle.replay.specs.Following.{judgedBy, judgedMove, movesFrom}
@@ -52,17 +52,17 @@ module _ (bits : List ℕ) {t : Tech} (view : View) (good-t : GoodTech t) where
       ap (λ (b : Bool). _>>_ (rule 17 at (agree b last)) (good made))
       (spot-goal (t .grid) tree unjoined spots w (apart w) (lands .place .vertex) held)
 
-  -- the sum so far and the rest are the whole, and the arrays stand for what the moves leave
+  -- what was done so far and the rest are the whole, and the arrays stand for what the moves leave
   abbrev pub MovesMeet : (k : ℕ) → Standing → Gone → Moved → Gone → Arrays → Type 0
   MovesMeet k s gone moved end arrays =
-      (end ≡ record { place = moved .last; sum = plusSum (gone .sum) (moved .sum) })
-      × Stood (t .grid) (walkedBy k s (plusSum (gone .sum) (moved .sum))) arrays
+      (end ≡ record { place = moved .last; made = gone .made ++ moved .made })
+      × Stood (t .grid) (walkedBy k s (gone .made ++ moved .made)) arrays
 
   -- reading so many moves follows, from any place and any arrays that stand for what was walked
   abbrev pub Follows : (k : ℕ) → Standing → (n : ℕ) → Type 0
   Follows k s n =
-      (at : ℕ) (gone : Gone) (arrays : Arrays) → GoodPlace t (gone .place) → (1 ≤ n → Apart (s .tree ++ gone .sum .vertices) (s .unjoined))
-      → Stood (t .grid) (walkedBy k s (gone .sum)) arrays
+      (at : ℕ) (gone : Gone) (arrays : Arrays) → GoodPlace t (gone .place) → (1 ≤ n → Apart (s .tree ++ verticesOf (gone .made)) (s .unjoined))
+      → Stood (t .grid) (walkedBy k s (gone .made)) arrays
       → Follow (MovesMeet k s gone) (readMoves bits t view (s .unjoined) n at (gone .place)) (movesFrom bits t view (suc k) n at gone arrays)
 
   -- one vertex more keeps the tree apart, if it is no unjoined pin
@@ -80,26 +80,27 @@ module _ (bits : List ℕ) {t : Tech} (view : View) (good-t : GoodTech t) where
 
   -- a legal move that is judged good, and the rest
   made-follow : (k : ℕ) (s : Standing) (n at : ℕ) (gone : Gone) (arrays : Arrays) (made : Made) → k < length (s .metal) → Lands t made
-      → member (made .next .vertex) (s .unjoined) ≡ eqb n 0 → Apart (s .tree ++ gone .sum .vertices) (s .unjoined)
-      → Stood (t .grid) (walkedBy k s (gone .sum)) arrays → Follows k s n
+      → member (made .next .vertex) (s .unjoined) ≡ eqb n 0 → Apart (s .tree ++ verticesOf (gone .made)) (s .unjoined)
+      → Stood (t .grid) (walkedBy k s (gone .made)) arrays → Follows k s n
       → Follow (MovesMeet k s gone)
       (_>>=_ (readMoves bits t view (s .unjoined) n (at + 2) (made .next)) (λ rest. good (withMove (field bits at 2) made rest)))
       (movesFrom bits t view (suc k) n (at + 2) (goneOn gone made) (enterBy (suc k) made arrays))
-  unfolding goneOn withMove thenMade
+  unfolding goneOn withMove
   made-follow k s n at gone arrays made known lands ends apart stood rest-follows =
       follow-with (MovesMeet k s gone) (withMove (field bits at 2) made) (follow-meets moved-on
       (rest-follows (at + 2) (goneOn gone made) (enterBy (suc k) made arrays) (lands .place) still
-      (stood-entered (t .grid) k s (gone .sum) made arrays known (lands .laid) (lands .place .vertex) stood)))
+      (stood-entered (t .grid) k s (gone .made) made arrays known (lands .laid) (lands .place .vertex) stood)))
     where
-      still : 1 ≤ n → Apart (s .tree ++ (gone .sum .vertices ++ (made .next .vertex ∷ []))) (s .unjoined)
+      still : 1 ≤ n → Apart (s .tree ++ verticesOf (gone .made ++ (made ∷ []))) (s .unjoined)
       still some =
-          apart-more (s .tree) (gone .sum .vertices) (s .unjoined) (made .next .vertex) apart (ends ∙ ne-eqb n 0 (λ e. omega (arith, e, some)))
+          rw (vertices-then (gone .made) made)
+          (apart-more (s .tree) (verticesOf (gone .made)) (s .unjoined) (made .next .vertex) apart (ends ∙ ne-eqb n 0 (λ e. omega (arith, e, some))))
 
       moved-on : (moved : Moved) (end : Gone) (left : Arrays) → MovesMeet k s (goneOn gone made) moved end left
           → MovesMeet k s gone (withMove (field bits at 2) made moved) end left
       moved-on moved end left (e, st) =
-          let sum = then-sum (gone .sum) made (moved .sum) in
-          (e ∙ (λ i. record { place = moved .last; sum = sum i }), subst (λ (z : Sum). Stood (t .grid) (walkedBy k s z) left) sum st)
+          let all = append-assoc (gone .made) (made ∷ []) (moved .made) in
+          (e ∙ (λ i. record { place = moved .last; made = all i }), subst (λ (z : List Made). Stood (t .grid) (walkedBy k s z) left) all st)
 
   -- one move and the rest
   more-follow : (k : ℕ) (s : Standing) (n : ℕ) → k < length (s .metal) → Follows k s n → Follows k s (suc n)
@@ -119,15 +120,15 @@ module _ (bits : List ℕ) {t : Tech} (view : View) (good-t : GoodTech t) where
     where
       same : (x : Stepped) → step t view (gone .place) (field bits at 2) ≡ x
           → judgedBy at (eqb n 0) (arrays .spots) x ≡ judged at (eqb n 0) (s .unjoined) x
-      same = judged-same (s .tree ++ gone .sum .vertices) (s .unjoined) (arrays .spots) at (eqb n 0) (gone .place) (apart (omega arith)) on (stood .spots)
+      same = judged-same (s .tree ++ verticesOf (gone .made)) (s .unjoined) (arrays .spots) at (eqb n 0) (gone .place) (apart (omega arith)) on (stood .spots)
 
   -- the law
   pub moves-follow : (k : ℕ) (s : Standing) (n : ℕ) → k < length (s .metal) → Follows k s n
   unfolding readMoves movesFrom
   moves-follow k s zero known at gone arrays on apart stood =
-      let none = sym (plus-nothing (gone .sum)) in
+      let none = sym (append-nil (gone .made)) in
       bothGood refl refl (
-        λ i. record { place = gone .place; sum = none i },
-        subst (λ (z : Sum). Stood (t .grid) (walkedBy k s z) arrays) none stood,
+        λ i. record { place = gone .place; made = none i },
+        subst (λ (z : List Made). Stood (t .grid) (walkedBy k s z) arrays) none stood,
       )
   moves-follow k s (suc n) known at gone arrays on apart stood = more-follow k s n known (moves-follow k s n known) at gone arrays on apart stood

@@ -11,6 +11,7 @@ use Rattle.job.specs.Grid.{Grid, vertices}
 use Rattle.job.specs.Job.{Job}
 use Rattle.job.specs.Good.{GoodJob}
 use Rattle.job.specs.Reading.{good, _>>=_}
+use Rattle.rules.specs.Walks.{walkCost}
 use Rattle.rules.specs.Views.{View}
 use Rattle.rules.specs.Prices.{techOf}
 use Rattle.rules.specs.Standings.{Standing, joinedBy}
@@ -48,11 +49,11 @@ module _ (B : List ℕ) (bits : AllBelow 2 B) {j : Job} (good-j : GoodJob j) (k 
       → (flag : ℕ) (ended : Progress) → ended .totals ≡ totals → ended .at ≡ at + 1 → ended .metal ≡ s .metal
       → Follow (NetMeet (j .grid))
       (byFlag flag ended (readJoin B j k s (at + 1)) (λ read.
-      _>>=_ (readNet B j k n (joinedBy k s (read .moved .last .vertex) (read .moved .sum)) (withJoin totals (read .moved .sum)) (read .next))
-      (λ rest. good (before (record { net = k; before = s; written = join (read .start) (read .moved .moves) (read .moved .sum .cost) }) rest))))
+      _>>=_ (readNet B j k n (joinedBy k s (read .moved .last .vertex) (read .moved .made)) (withJoin totals (read .moved .made)) (read .next))
+      (λ rest. good (before (record { net = k; before = s; written = join (read .start) (read .moved .moves) (walkCost (read .moved .made)) }) rest))))
       (Code.byFlag flag (came (record { totals = totals; next = at + 1 }) arrays)
       (andOn (joinFrom B (techOf j) view (suc k) (at + 1) arrays) (λ joined after.
-      netFrom B (techOf j) view (suc k) pins n (joined .next) (withJoin totals (joined .gone .sum)) after)))
+      netFrom B (techOf j) view (suc k) pins n (joined .next) (withJoin totals (joined .gone .made)) after)))
   unfolding byFlag Code.byFlag before
   records-follow n s totals at arrays here rest-follows zero ended et ea em =
       bothGood {arrays = arrays} refl refl (
@@ -63,9 +64,9 @@ module _ (B : List ℕ) (bits : AllBelow 2 B) {j : Job} (good-j : GoodJob j) (k 
       rw (here .sees) (follow-on (NetMeet (j .grid)) _ _ (join-follow B bits good-j k s (here .apart) (at + 1) arrays (here .known) (here .stood))
       (λ read joined after is meet.
       rw (meet .0, ← here .sees) (follow-with (NetMeet (j .grid))
-      (before (record { net = k; before = s; written = join (read .start) (read .moved .moves) (read .moved .sum .cost) }))
-      (rest-follows (joinedBy k s (read .moved .last .vertex) (read .moved .sum)) (withJoin totals (read .moved .sum)) (read .next) after
-      (net-joined j k view pins s (read .moved .sum) (read .moved .last .vertex) arrays after here
+      (before (record { net = k; before = s; written = join (read .start) (read .moved .moves) (walkCost (read .moved .made)) }))
+      (rest-follows (joinedBy k s (read .moved .last .vertex) (read .moved .made)) (withJoin totals (read .moved .made)) (read .next) after
+      (net-joined j k view pins s (read .moved .made) (read .moved .last .vertex) arrays after here
       (legal-apart good-j k s (here .apart) (join-good B bits j k s (at + 1) read is .legal)) (meet .1))))))
 
   -- the law

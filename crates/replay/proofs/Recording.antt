@@ -107,7 +107,7 @@ module _ (tech : TechStruct) (view : View) (B : List ℕ) (net : ℕ) (pins : Li
     -- what the rest gives, after a flag and a join
     abbrev after-join : Came Joined → Came Ended
     after-join x =
-        andOn x (λ joined after. netFrom B (techBy tech) view net pins (left - 1) (joined .next) (withJoin (totalsOf totals) (joined .gone .sum)) after)
+        andOn x (λ joined after. netFrom B (techBy tech) view net pins (left - 1) (joined .next) (withJoin (totalsOf totals) (joined .gone .made)) after)
 
     abbrev after-flag : Read Unit → Came Ended
     after-flag x =
@@ -124,7 +124,7 @@ module _ (tech : TechStruct) (view : View) (B : List ℕ) (net : ℕ) (pins : Li
             ≡ cond (someUnjoined spots pins) (andRead here (group B at 1) (λ whole. byFlag (field B at 1)
             (came (record { totals = totalsOf totals; next = at + 1 }) here)
             (andOn (joinFrom B (techBy tech) view net (at + 1) here) (λ joined after.
-            netFrom B (techBy tech) view net pins (n - 1) (joined .next) (withJoin (totalsOf totals) (joined .gone .sum)) after))))
+            netFrom B (techBy tech) view net pins (n - 1) (joined .next) (withJoin (totalsOf totals) (joined .gone .made)) after))))
             (came (record { totals = withNet (totalsOf totals); next = at }) here)
         by zero h = absurd (omega (arith, h))
         by (suc n) h = let less : suc n - 1 ≡ n = omega arith in rw less refl
@@ -234,7 +234,7 @@ module _ (tech : TechStruct) (view : View) (B : List ℕ) (net : ℕ) (pins : Li
             by (stopped m q after) e h k l = absurd h
             by (came joined after) e (walk, nexts) k l =
                 let b = so-far .bounded in
-                let total : withJoin (totalsOf totals) (joined .gone .sum) ≡ totalsOf more =
+                let total : withJoin (totalsOf totals) (joined .gone .made) ≡ totalsOf more =
                 rw summed (λ i. record {
                   cost = totals .cost + sym (walk .cost) i;
                   added = totals .added + sym (walk .added) i;

@@ -13,6 +13,7 @@ use lib.Dec.{leb, eqb}
 use Rattle.bits.specs.Bits.{field}
 use Rattle.job.specs.Grid.{Grid, vertexNumber, inside}
 use Rattle.job.specs.Reading.{Read, refused, good, _>>=_, _>>_, rule, vertexAt}
+use Rattle.rules.specs.Walks.{walkCost}
 use Rattle.rules.specs.Views.{View}
 use Rattle.rules.specs.Segments.{Place}
 use Rattle.rules.specs.Prices.{Tech}
@@ -87,7 +88,7 @@ pub record Joined : Type 0 where
 -- the cost after moves that were read
 unfoldable pub costFrom : (bits : List ℕ) → (at : ℕ) → Came Gone → Came Joined
 costFrom bits at moves =
-    andOn moves (λ gone after. andRead after (readCost bits at (gone .sum .cost)) (λ next. came (record { gone = gone; next = next }) after))
+    andOn moves (λ gone after. andRead after (readCost bits at (walkCost (gone .made))) (λ next. came (record { gone = gone; next = next }) after))
 
 unfoldable pub joinFrom : (bits : List ℕ) → Tech → View → (net at : ℕ) → Arrays → Came Joined
 joinFrom bits t view net at arrays =
@@ -112,5 +113,5 @@ netFrom bits t view net pins (suc n) at totals arrays =
     (andRead arrays (group bits at 1) (λ whole.
     byFlag (field bits at 1) (came (record { totals = totals; next = at + 1 }) arrays)
     (andOn (joinFrom bits t view net (at + 1) arrays) (λ joined after.
-    netFrom bits t view net pins n (joined .next) (withJoin totals (joined .gone .sum)) after))))
+    netFrom bits t view net pins n (joined .next) (withJoin totals (joined .gone .made)) after))))
     (came (record { totals = withNet totals; next = at }) arrays)

@@ -10,7 +10,7 @@ use Rattle.job.specs.Good.{GoodJob}
 use Rattle.rules.specs.Views.{View, viewOf}
 use Rattle.rules.specs.Segments.{Place}
 use Rattle.rules.specs.Prices.{techOf}
-use Rattle.rules.specs.Walks.{Sum, startAt, walked, walk}
+use Rattle.rules.specs.Walks.{startAt, walked, walk}
 use Rattle.rules.specs.Standings.{Standing, joinedBy}
 use Rattle.rules.specs.Joins.{join, joinOf}
 use Rattle.rules.specs.Routings.{Totals, withNet, byRecord, routeNet}
@@ -22,18 +22,17 @@ use Rattle.rules.proofs.Standing.{joined-apart}
 use Rattle.metal.specs.Codes.{Beyond}
 use Rattle.walker.specs.Entering.{Arrays, goneAt, entered, enterAll}
 use Rattle.walker.specs.Standing.{Stood, AtNet}
-use Rattle.walker.proofs.Sums.{plusSum, nothing-plus}
 use Rattle.walker.proofs.Standing.{walkedBy, stood-begun, stood-joined, end-entered, net-joined}
 use Rattle.walker.proofs.Entering.{enter-walk}
 
 -- a join of net k that was walked and entered
 pub record JoinMade (j : Job) (k : ℕ) (view : View) (pins : List ℕ) (s : Standing) (arrays : Arrays) (start : ℕ) (moves : List ℕ) : Type 0 where
   pub last : Place
-  pub sum : Sum
+  pub made : List Made
   pub left : Arrays
-  pub walks : walk (techOf j) (viewOf j k (s .metal)) (startAt start) moves ≡ walked last sum
-  pub enters : enterAll (techOf j) view (suc k) moves (goneAt start) arrays ≡ entered (record { place = last; sum = sum }) left
-  pub after : AtNet j k view pins (joinedBy k s (last .vertex) sum) left
+  pub walks : walk (techOf j) (viewOf j k (s .metal)) (startAt start) moves ≡ walked last made
+  pub enters : enterAll (techOf j) view (suc k) moves (goneAt start) arrays ≡ entered (record { place = last; made = made }) left
+  pub after : AtNet j k view pins (joinedBy k s (last .vertex) made) left
   pub kept : Beyond (vertices (j .grid)) (left .codes) (arrays .codes)
 
 module _ {j : Job} (good-j : GoodJob j) (k : ℕ) (view : View) (pins : List ℕ) (s : Standing) (arrays : Arrays) (here : AtNet j k view pins s arrays) where
@@ -47,16 +46,14 @@ module _ {j : Job} (good-j : GoodJob j) (k : ℕ) (view : View) (pins : List ℕ
       let on = here .apart .onGrid start (route .onTree) in
       let w = route-walk good view on route in
       let by = enter-walk view good k s (here .known) moves (goneAt start) arrays (start-good on) (stood-begun (j .grid) k s arrays (here .stood)) (w .does) in
-      let all : plusSum (goneAt start .sum) (w .sum) ≡ w .sum = nothing-plus (w .sum) in
-      let stood = subst (λ (z : Sum). Stood (j .grid) (walkedBy k s z) (by .left)) all (by .stood) in
       record {
         last = w .last;
-        sum = w .sum;
+        made = w .made;
         left = by .left;
         walks = ap (λ (v : View). walk (techOf j) v (startAt start) moves) (sym (here .sees)) ∙ w .does;
-        enters = by .is ∙ (λ i. entered (record { place = w .last; sum = all i }) (by .left));
-        after = net-joined j k view pins s (w .sum) (w .last .vertex) arrays (by .left) here (joined-apart k s good (here .apart) route (w .does))
-            (stood-joined (j .grid) k s (w .sum) (w .last .vertex) (by .left) (end-entered (w .last .vertex) (s .tree) (w .way) (w .enters)) stood);
+        enters = by .is;
+        after = net-joined j k view pins s (w .made) (w .last .vertex) arrays (by .left) here (joined-apart k s good (here .apart) route (w .does))
+            (stood-joined (j .grid) k s (w .made) (w .last .vertex) (by .left) (end-entered (w .last .vertex) (s .tree) (w .way) (w .enters)) (by .stood));
         kept = by .kept;
       }
 

@@ -49,7 +49,7 @@ net-metals j k (suc n) s totals = by (s .unjoined) (net-metals j k n)
 
     byWalk : Rest → (x : Walked) → Later k (s .metal) (afterJoin k s totals (routeNet j k n) x .metal)
     byWalk rest stuck = later-none refl
-    byWalk rest (walked last sum) = later-on (later-more k _ (s .metal)) (rest (joinedBy k s (last .vertex) sum) (withJoin totals sum))
+    byWalk rest (walked last made) = later-on (later-more k _ (s .metal)) (rest (joinedBy k s (last .vertex) made) (withJoin totals made))
 
     byRecords : Rest → (r : Record) → Later k (s .metal) (byRecord j k s totals (routeNet j k n) r .metal)
     byRecords rest none = later-none refl

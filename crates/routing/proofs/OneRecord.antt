@@ -150,10 +150,10 @@ module _ (tech : TechStruct) (view : View) (net : ℕ) (pins : List ℕ) (count 
           by none e is = absurd is
           by (join start moves cost) e (nexts, walked) =
               let made = join-made (h .rules) k view pins (t .now) arrays (t .here) e in
-              let enters : enterAll (techOf j) view net moves (goneAt start) arrays ≡ entered (record { place = made .last; sum = made .sum }) (made .left) =
+              let enters : enterAll (techOf j) view net moves (goneAt start) arrays ≡ entered (record { place = made .last; made = made .made }) (made .left) =
               ap (λ (n : ℕ). enterAll (techOf j) view n moves (goneAt start) arrays) (h .number) ∙ made .enters in
               let walk = rw enters at walked in
-              let total : withJoin (totalsOf totals) (made .sum) ≡ totalsOf more =
+              let total : withJoin (totalsOf totals) (made .made) ≡ totalsOf more =
               rw summed (λ i. record {
                 cost = totals .cost + sym (walk .cost) i;
                 added = totals .added + sym (walk .added) i;
@@ -167,7 +167,7 @@ module _ (tech : TechStruct) (view : View) (net : ℕ) (pins : List ℕ) (count 
               let arrays-now : made .left ≡ record { spots = spots′; codes = codes′ } = λ i. record { spots = sym spots-now i; codes = sym codes-now i } in
               let put = entries-put (j .grid) (t .done) (entry (join start moves cost)) found from (t .put) (t .next)
               (said .put ∙ ap (λ (r : Record). putBits plan bits (recordBits (j .grid) r)) e) in
-              let stands = joinedBy k (t .now) (made .last .vertex) (made .sum) in
+              let stands = joinedBy k (t .now) (made .last .vertex) (made .made) in
               let done = t .done ++ (entry (join start moves cost) ∷ []) in
               record {
                 now = stands;
@@ -176,7 +176,7 @@ module _ (tech : TechStruct) (view : View) (net : ℕ) (pins : List ℕ) (count 
                 same =
                     one-more ∙ ap (λ (r : Record). withEntries (t .done) (byRecord j k (t .now) (totalsOf totals) (routeNet j k (left - 1)) r)) e
                     ∙ ap (λ (x : Walked). withEntries (t .done) (withEntry (entry (join start moves cost)) (afterJoin k (t .now) (totalsOf totals) (routeNet j k (left - 1)) x))) (made .walks)
-                    ∙ entries-entry (t .done) (entry (join start moves cost)) (routeNet j k (left - 1) stands (withJoin (totalsOf totals) (made .sum)))
+                    ∙ entries-entry (t .done) (entry (join start moves cost)) (routeNet j k (left - 1) stands (withJoin (totalsOf totals) (made .made)))
                     ∙ ap (λ (z : Totals). withEntries done (routeNet j k (left - 1) stands z)) total;
                 put = put .0;
                 next = omega (arith, nexts, put .1, join-bits (j .grid) start moves cost);

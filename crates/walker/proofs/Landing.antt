@@ -16,8 +16,8 @@ use Rattle.rules.specs.Views.{View}
 use Rattle.rules.specs.Segments.{Place}
 use Rattle.rules.specs.Prices.{Tech}
 use Rattle.rules.specs.Places.{GoodTech, GoodPlace}
-use Rattle.rules.specs.Steps.{Made, legal, step, priced}
-use Rattle.rules.specs.Walks.{nothingYet, startAt}
+use Rattle.rules.specs.Steps.{Made, legal, step, priceOf, priced}
+use Rattle.rules.specs.Walks.{startAt, total}
 use Rattle.rules.specs.Structs.{directionOf, segmentOf, TechFits, techBy, placeOf, laidBy, madeBy, WholeMade}
 use Rattle.rules.specs.declared.price.Tech.{Tech as TechStruct}
 use Rattle.rules.specs.declared.step.Place.{Place as PlaceStruct}
@@ -27,9 +27,10 @@ use Rattle.rules.proofs.Laid.{Free, step-free}
 use Rattle.rules.proofs.Moves.{step-keeps, step-limits, step-penalties}
 use Rattle.metal.specs.Codes.{layAll, extended}
 use Rattle.metal.proofs.Runs.{beyond-clear}
-use Rattle.walker.specs.Entering.{enterBy, Gone, goneAt, thenMade, goneOn}
+use Rattle.walker.specs.Entering.{enterBy, Gone, goneAt, goneOn}
 use Rattle.walker.specs.Structs.{IsWalk, walkFrom, walkOn, WalkFits}
 use Rattle.walker.specs.declared.Walk.{Walk}
+use Rattle.walker.proofs.Sums.{total-then}
 
 -- a legal move from a good place leads to a vertex of the grid, and what it lays is of the grid
 pub record Lands (t : Tech) (made : Made) : Type 0 where
@@ -90,7 +91,7 @@ module _ (tech : TechStruct) (view : View) (p : PlaceStruct) (number : ℕ) (m :
 
 -- of no moves
 pub made-none : (tech : TechStruct) (start : ℕ) → start < vertices (gridOf (tech .grid)) → MovesMade tech 0 (walkFrom start) (goneAt start)
-unfolding walkFrom goneAt nothingYet startAt segmentOf techBy
+unfolding walkFrom goneAt total startAt segmentOf techBy
 made-none tech start on =
     record {
       is = record { place = refl; cost = refl; added = refl; penalties = refl };
@@ -103,14 +104,14 @@ made-none tech start on =
 -- of one more
 pub made-one : (tech : TechStruct) (view : View) {n : ℕ} {walk : Walk} {gone : Gone} (m : MadeStruct) → MovesMade tech n walk gone → MoveFits tech m
     → MovesMade tech (suc n) (walkOn walk m) (goneOn gone (madeBy (gridOf (tech .grid)) view (walk .place .vertex) m))
-unfolding madeBy goneOn thenMade walkOn
+unfolding madeBy goneOn walkOn
 made-one tech view {n} m so-far new =
     record {
       is = record {
         place = refl;
-        cost = ap (λ (c : ℕ). c + (m .enter + m .over)) (so-far .is .cost);
-        added = ap (λ (c : ℕ). c + m .added) (so-far .is .added);
-        penalties = ap (λ (c : ℕ). c + m .penalties) (so-far .is .penalties);
+        cost = ap (λ (c : ℕ). c + (m .enter + m .over)) (so-far .is .cost) ∙ sym (total-then (λ x. priceOf x) _ _);
+        added = ap (λ (c : ℕ). c + m .added) (so-far .is .added) ∙ sym (total-then (λ x. x .added) _ _);
+        penalties = ap (λ (c : ℕ). c + m .penalties) (so-far .is .penalties) ∙ sym (total-then (λ x. x .penalties) _ _);
       };
       place = new .place;
       cost = omega (arith, so-far .cost, new .price);

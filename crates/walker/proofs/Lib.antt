@@ -1,5 +1,5 @@
 -- The laws of walking a join's moves.
---     Sums         the sum of a join's moves, from the front and from the back
+--     Sums         what moves did, with one move more at the end
 --     Standing     what the arrays stand for while a join is walked
 --     Landing      what is known of a move, and of the walk after it
 --     Entering     a list of moves that walks

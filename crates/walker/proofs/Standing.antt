@@ -7,7 +7,7 @@
 --     net-joined        what is known before a record is known after a join
 use Prim.Native.Nat.{ℕ, zero, suc, _<_}
 use mathlib.Core.Path.{_≡_, refl, sym, ap, subst, _∙_}
-use mathlib.Core.List.{List, [], _∷_, _++_, append-assoc, append-nil}
+use mathlib.Core.List.{List, [], _∷_, _++_, flatMap, append-assoc, append-nil}
 use mathlib.Core.Bool.{Bool, true, false, _||_, or-true}
 use native.Mathlib.Omega.{arith}
 use lib.ListN.{length, set, length-set}
@@ -17,7 +17,7 @@ use Rattle.job.specs.Job.{Job}
 use Rattle.rules.specs.Views.{View, member}
 use Rattle.rules.specs.Prices.{techOf}
 use Rattle.rules.specs.Steps.{Made}
-use Rattle.rules.specs.Walks.{Sum, nothingYet}
+use Rattle.rules.specs.Walks.{verticesOf, laidOf}
 use Rattle.rules.specs.Standings.{Standing, without, more, joinedBy, Stands}
 use Rattle.rules.proofs.Own.{view-own}
 use Rattle.rules.proofs.Members.{not-both, member-one, member-both, without-less}
@@ -27,13 +27,14 @@ use Rattle.metal.proofs.Coded.{codes-laid, codes-alike}
 use Rattle.metal.proofs.Laid.{laid-beyond}
 use Rattle.tree.specs.Spots.{Spots}
 use Rattle.tree.proofs.Spots.{spots-entered, spots-joined}
-use Rattle.walker.specs.Entering.{Arrays, enterBy, thenMade}
+use Rattle.walker.specs.Entering.{Arrays, enterBy}
 use Rattle.walker.specs.Standing.{Stood, AtNet}
+use Rattle.walker.proofs.Sums.{vertices-then, laid-then}
 
 -- a standing of net k after the moves so far: the pin at their end is not yet joined
-unfoldable pub walkedBy : (k : ℕ) → Standing → Sum → Standing
-walkedBy k s sum =
-    record { tree = s .tree ++ sum .vertices; unjoined = s .unjoined; metal = more k (sum .vertices ++ sum .laid) (s .metal) }
+unfoldable pub walkedBy : (k : ℕ) → Standing → List Made → Standing
+walkedBy k s ms =
+    record { tree = s .tree ++ verticesOf ms; unjoined = s .unjoined; metal = more k (verticesOf ms ++ laidOf ms) (s .metal) }
 
 -- more of one net twice
 more-more : (k : ℕ) (xs ys : List ℕ) (metal : List (List ℕ)) → more k ys (more k xs metal) ≡ more k (xs ++ ys) metal
@@ -71,31 +72,31 @@ regroup v xs ls ms ws =
     by false false false false = refl
 
 -- a move that is entered: it lays vertices of the grid and enters one
-pub stood-entered : (g : Grid) (k : ℕ) (s : Standing) (sum : Sum) (made : Made) (arrays : Arrays) → k < length (s .metal)
-    → All (λ v. v < vertices g) (made .laid) → made .next .vertex < vertices g → Stood g (walkedBy k s sum) arrays
-    → Stood g (walkedBy k s (thenMade sum made)) (enterBy (suc k) made arrays)
-unfolding walkedBy thenMade enterBy All
-stood-entered g k s sum made arrays known laid on stood =
+pub stood-entered : (g : Grid) (k : ℕ) (s : Standing) (ms : List Made) (made : Made) (arrays : Arrays) → k < length (s .metal)
+    → All (λ v. v < vertices g) (made .laid) → made .next .vertex < vertices g → Stood g (walkedBy k s ms) arrays
+    → Stood g (walkedBy k s (ms ++ (made ∷ []))) (enterBy (suc k) made arrays)
+unfolding walkedBy enterBy All
+stood-entered g k s ms made arrays known laid on stood =
     let w = made .next .vertex in
     let news = made .laid ++ (w ∷ []) in
-    let metal = more k (sum .vertices ++ sum .laid) (s .metal) in
+    let metal = more k (verticesOf ms ++ laidOf ms) (s .metal) in
     let below = all-append (λ v. v < vertices g) (made .laid) (w ∷ []) laid (on, tt) in
     let many : k < length metal = rw more-length known in
     let codes = codes-laid g metal k news (arrays .codes) many (stood .size) below (stood .codes) in
-    let one = subst (λ (m : List (List ℕ)). Codes g m (layAll (suc k) news (arrays .codes))) (more-more k (sum .vertices ++ sum .laid) news (s .metal)) codes in
-    let spots = spots-entered g (s .tree ++ sum .vertices) (s .unjoined) (arrays .spots) w (omega (arith, on, stood .room)) (stood .spots) in
-    record {
-      spots = subst (λ (tree : List ℕ). Spots g tree (s .unjoined) (set (arrays .spots) w 1)) (append-assoc (s .tree) (sum .vertices) (w ∷ [])) spots;
+    let one = subst (λ (m : List (List ℕ)). Codes g m (layAll (suc k) news (arrays .codes))) (more-more k (verticesOf ms ++ laidOf ms) news (s .metal)) codes in
+    let spots = spots-entered g (s .tree ++ verticesOf ms) (s .unjoined) (arrays .spots) w (omega (arith, on, stood .room)) (stood .spots) in
+    rw (vertices-then ms made, laid-then ms made) (record {
+      spots = subst (λ (tree : List ℕ). Spots g tree (s .unjoined) (set (arrays .spots) w 1)) (append-assoc (s .tree) (verticesOf ms) (w ∷ [])) spots;
       codes =
-          codes-alike g (s .metal) k ((sum .vertices ++ sum .laid) ++ news) ((sum .vertices ++ (w ∷ [])) ++ (sum .laid ++ made .laid)) _
-          (λ v. regroup v (sum .vertices) (sum .laid) (made .laid) (w ∷ [])) one;
+          codes-alike g (s .metal) k ((verticesOf ms ++ laidOf ms) ++ news) ((verticesOf ms ++ (w ∷ [])) ++ (laidOf ms ++ made .laid)) _
+          (λ v. regroup v (verticesOf ms) (laidOf ms) (made .laid) (w ∷ [])) one;
       room = rw length-set (stood .room);
       size = omega (arith, laid-beyond (vertices g) (suc k) news (arrays .codes) below .size, stood .size);
-    }
+    })
 
 -- before the first move
-pub stood-begun : (g : Grid) (k : ℕ) (s : Standing) (arrays : Arrays) → Stood g s arrays → Stood g (walkedBy k s nothingYet) arrays
-unfolding walkedBy nothingYet more
+pub stood-begun : (g : Grid) (k : ℕ) (s : Standing) (arrays : Arrays) → Stood g s arrays → Stood g (walkedBy k s []) arrays
+unfolding walkedBy flatMap more
 stood-begun g k s arrays stood =
     record {
       spots = rw append-nil (stood .spots);
@@ -110,12 +111,12 @@ stood-begun g k s arrays stood =
     more-none (suc k) (m ∷ ms) = ap (λ (z : List (List ℕ)). m ∷ z) (more-none k ms)
 
 -- after the last: the pin at the end, which was entered, is joined
-pub stood-joined : (g : Grid) (k : ℕ) (s : Standing) (sum : Sum) (end : ℕ) (arrays : Arrays) → member end (s .tree ++ sum .vertices) ≡ true
-    → Stood g (walkedBy k s sum) arrays → Stood g (joinedBy k s end sum) arrays
+pub stood-joined : (g : Grid) (k : ℕ) (s : Standing) (made : List Made) (end : ℕ) (arrays : Arrays) → member end (s .tree ++ verticesOf made) ≡ true
+    → Stood g (walkedBy k s made) arrays → Stood g (joinedBy k s end made) arrays
 unfolding walkedBy joinedBy
-stood-joined g k s sum end arrays on stood =
+stood-joined g k s made end arrays on stood =
     record {
-      spots = spots-joined g (s .tree ++ sum .vertices) (s .unjoined) (arrays .spots) end on (stood .spots);
+      spots = spots-joined g (s .tree ++ verticesOf made) (s .unjoined) (arrays .spots) end on (stood .spots);
       codes = stood .codes;
       room = stood .room;
       size = stood .size;
@@ -136,11 +137,11 @@ without-member v w ps e = by (member v ps) refl
     by false h = absurd (not-both e (without-less v w ps h))
 
 -- what is known before a record is known after a join
-pub net-joined : (j : Job) (k : ℕ) (view : View) (pins : List ℕ) (s : Standing) (sum : Sum) (end : ℕ) (before after : Arrays)
-    → AtNet j k view pins s before → Stands (techOf j) (joinedBy k s end sum) → Stood (j .grid) (joinedBy k s end sum) after
-    → AtNet j k view pins (joinedBy k s end sum) after
+pub net-joined : (j : Job) (k : ℕ) (view : View) (pins : List ℕ) (s : Standing) (made : List Made) (end : ℕ) (before after : Arrays)
+    → AtNet j k view pins s before → Stands (techOf j) (joinedBy k s end made) → Stood (j .grid) (joinedBy k s end made) after
+    → AtNet j k view pins (joinedBy k s end made) after
 unfolding joinedBy
-net-joined j k view pins s sum end before after here apart stood =
+net-joined j k view pins s made end before after here apart stood =
     record {
       stood = stood;
       apart = apart;

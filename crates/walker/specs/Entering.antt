@@ -1,6 +1,6 @@
 -- What a list of moves leaves, with what stands in arrays.
 --     Arrays, enterBy       the bytes of the tree and the map's codes; what a move leaves
---     Gone, goneAt, goneOn  where the moves so far have led, and their sum from the front
+--     Gone, goneAt, goneOn  where the moves so far have led, and what they did
 --     Entered, enterAll     a list of moves
 --     leftIn                the arrays that it leaves
 use Prim.Native.Nat.{ℕ, _+_}
@@ -10,7 +10,7 @@ use Rattle.rules.specs.Views.{View}
 use Rattle.rules.specs.Segments.{Place}
 use Rattle.rules.specs.Prices.{Tech}
 use Rattle.rules.specs.Steps.{Made, Stepped, illegal, legal, step}
-use Rattle.rules.specs.Walks.{Sum, nothingYet, startAt}
+use Rattle.rules.specs.Walks.{startAt}
 use Rattle.metal.specs.Codes.{layAll}
 
 -- the bytes of the tree, and the map's codes
@@ -27,26 +27,16 @@ enterBy n made arrays =
       codes = layAll n (made .laid ++ (made .next .vertex ∷ [])) (arrays .codes);
     }
 
--- where the moves so far have led, and their sum
+-- where the moves so far have led, and what they did
 pub record Gone : Type 0 where
   pub place : Place
-  pub sum : Sum
+  pub made : List Made
 
 unfoldable pub goneAt : (start : ℕ) → Gone
-goneAt start = record { place = startAt start; sum = nothingYet }
-
-unfoldable pub thenMade : Sum → Made → Sum
-thenMade sum made =
-    record {
-      vertices = sum .vertices ++ (made .next .vertex ∷ []);
-      laid = sum .laid ++ made .laid;
-      cost = sum .cost + (made .enter + made .over);
-      added = sum .added + made .added;
-      penalties = sum .penalties + made .penalties;
-    }
+goneAt start = record { place = startAt start; made = [] }
 
 unfoldable pub goneOn : Gone → Made → Gone
-goneOn gone made = record { place = made .next; sum = thenMade (gone .sum) made }
+goneOn gone made = record { place = made .next; made = gone .made ++ (made ∷ []) }
 
 -- all moves were entered, or one is not legal
 pub data Entered : Type 0 where

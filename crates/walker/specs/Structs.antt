@@ -15,6 +15,7 @@ use Rattle.occupants.specs.Occupants.{Occupants}
 use Rattle.rules.specs.Prices.{techOf}
 use Rattle.rules.specs.Standings.{metalAtFirst}
 use Rattle.rules.specs.Routings.{Totals}
+use Rattle.rules.specs.Walks.{walkCost, walkAdded, walkPenalties}
 use Rattle.rules.specs.Structs.{TechFits, techBy, placeOf}
 use Rattle.rules.specs.declared.price.Tech.{Tech as TechStruct}
 use Rattle.rules.specs.declared.segment.Segment.the-variants.{Paid}
@@ -29,9 +30,9 @@ use Rattle.walker.specs.declared.Walk.{Walk}
 -- the code's walk has led to the place, at the cost, with the added steps and penalties
 pub record IsWalk (w : Walk) (gone : Gone) : Type 0 where
   pub place : placeOf (w .place) ≡ gone .place
-  pub cost : w .cost ≡ gone .sum .cost
-  pub added : w .added ≡ gone .sum .added
-  pub penalties : w .penalties ≡ gone .sum .penalties
+  pub cost : w .cost ≡ walkCost (gone .made)
+  pub added : w .added ≡ walkAdded (gone .made)
+  pub penalties : w .penalties ≡ walkPenalties (gone .made)
 
 -- a join starts paid with no direction
 unfoldable pub walkFrom : (start : ℕ) → Walk
