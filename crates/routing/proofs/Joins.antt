@@ -10,6 +10,7 @@ use Rattle.job.specs.Good.{GoodJob}
 use Rattle.rules.specs.Views.{View, viewOf}
 use Rattle.rules.specs.Segments.{Place}
 use Rattle.rules.specs.Prices.{techOf}
+use Rattle.rules.specs.Steps.{Made}
 use Rattle.rules.specs.Walks.{startAt, walked, walk}
 use Rattle.rules.specs.Standings.{Standing, joinedBy}
 use Rattle.rules.specs.Joins.{join, joinOf}

@@ -12,7 +12,7 @@ use mathlib.Core.Bool.{Bool, true, false}
 use mathlib.Core.Logic.{_⊎_, inl, inr}
 use native.Mathlib.Omega.{arith}
 use denote.Enum.Declared.{tagOf}
-use Rattle.job.specs.Grid.{Grid}
+use Rattle.job.specs.Structs.{layerStruct}
 use Rattle.job.specs.declared.groups.Layer.{Layer as LayerStruct}
 use Rattle.paths.specs.Systems.{blocked, to}
 use Rattle.paths.specs.Distances.{Cost, fin, inf}
@@ -105,13 +105,13 @@ module _ (t : Tech) (view : View) (p : Place) (m : ℕ) where
     priced-via via = priced-leaving (via-leaves t view p (kindOf m) w enter via)
 
 -- what a via owes, from the code's form
-pub owed-told : (line : LayerStruct) {g : Grid} {view : View} {v : ℕ} (r : OverheadEnum) {o : Overhead}
-    → IsOverhead (line .wire) (line .area) g view v r o → overheadCost line r ≡ overheadPrice o
+pub owed-told : (t : Tech) (view : View) (v : ℕ) {line : LayerStruct} (r : OverheadEnum) {o : Overhead} → line ≡ layerStruct (lineOf t v)
+    → IsOverhead (lineOf t v .wire) (lineOf t v .area) (t .grid) view v r o → overheadCost line r ≡ overheadPrice o
 unfolding overheadCost overheadPrice overheadBy
-owed-told line Nothing told = rw (← told .same) refl
-owed-told line (Lengthened n e) told = rw (← told .same) refl
-owed-told line Penalised told = rw (← told .same) refl
-owed-told line Forbidden told = rw (← told .same) refl
+owed-told t view v Nothing is told = rw (← told .same) refl
+owed-told t view v (Lengthened n e) is told = rw (← told .same, is) refl
+owed-told t view v Penalised is told = rw (← told .same, is) refl
+owed-told t view v Forbidden is told = rw (← told .same) refl
 
 -- the vertex that an entry names is entered, at the price of entering it
 pub entry-parts : (t : Tech) (view : View) (v m : ℕ) {w enter : ℕ} → entryOf t view v m ≡ Open w enter
