@@ -3,12 +3,24 @@
 import argparse
 from typing import NoReturn
 
+PROGRAM_IS = "the program (else MAIZESPELL_PROGRAM, else target/bin/maizespell, else maizespell on the PATH)"
+PLAN_FORMS = "a plan, as bytes or as hexadecimal, such as the program's line"
+
 
 class Parser(argparse.ArgumentParser):
     """A parser whose errors are one line, with exit status 2."""
 
     def error(self, message: str) -> NoReturn:
         self.exit(2, f"{self.prog}: {message}; see '{self.prog} --help'\n")
+
+
+def arguments() -> argparse.Namespace:
+    """The command line, read and judged."""
+    top = parser()
+    given = top.parse_args()
+    if given.job == "-" and getattr(given, "plan", None) == "-":
+        top.error("JOB and PLAN are both standard input (-), expected a file for one of them")
+    return given
 
 
 def parser() -> Parser:
@@ -24,9 +36,9 @@ def parser() -> Parser:
     unpack.add_argument("job", metavar="JOB", help="a job's bytes")
     for command in (explain, draw, route):
         command.add_argument("job", metavar="JOB", help="a job, as text or bytes")
-    explain.add_argument("plan", metavar="PLAN", help="a plan, as bytes or as the program's line")
-    draw.add_argument("plan", metavar="PLAN", nargs="?", help="a plan, as bytes or as the program's line")
+    explain.add_argument("plan", metavar="PLAN", help=PLAN_FORMS)
+    draw.add_argument("plan", metavar="PLAN", nargs="?", help=PLAN_FORMS)
     router = route.add_mutually_exclusive_group()
-    router.add_argument("--program", metavar="PATH", help="the program (else MAIZESPELL_PROGRAM, else target/bin/maizespell)")
+    router.add_argument("--program", metavar="PATH", help=PROGRAM_IS)
     router.add_argument("--host", metavar="PATH", help="the host of examples/host, which routes larger jobs too")
     return top
