@@ -21,6 +21,12 @@
 #include <stddef.h>
 #include <stdint.h>
 
+/* The version, which the package and the tool have from here. */
+#define MAIZESPELL_VERSION_MAJOR 0
+#define MAIZESPELL_VERSION_MINOR 2
+#define MAIZESPELL_VERSION_PATCH 0
+#define MAIZESPELL_VERSION "0.2.0"
+
 #ifdef __cplusplus
 extern "C" {
 #endif

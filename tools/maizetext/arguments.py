@@ -1,7 +1,9 @@
 """The tool's command line."""
 
 import argparse
-from typing import NoReturn
+from typing import Any, NoReturn
+
+from maizetext.version import version
 
 PROGRAM_IS = "the program (else MAIZESPELL_PROGRAM, else target/bin/maizespell, else maizespell on the PATH)"
 PLAN_FORMS = "a plan, as bytes or as hexadecimal, such as the program's line"
@@ -12,6 +14,17 @@ class Parser(argparse.ArgumentParser):
 
     def error(self, message: str) -> NoReturn:
         self.exit(2, f"{self.prog}: {message}; see '{self.prog} --help'\n")
+
+
+class Version(argparse.Action):
+    """Says the version, which is looked up only when it is asked for."""
+
+    def __init__(self, option_strings: list[str], dest: str, **_: Any) -> None:
+        super().__init__(option_strings, dest, nargs=0, help="say the version and exit")
+
+    def __call__(self, parser: argparse.ArgumentParser, *_: Any) -> None:
+        print(f"maize {version()}")
+        parser.exit()
 
 
 def arguments() -> argparse.Namespace:
@@ -26,6 +39,7 @@ def arguments() -> argparse.Namespace:
 def parser() -> Parser:
     """All commands with their arguments."""
     top = Parser(prog="maize", description="Jobs and plans that one can read. FILE - is standard input.")
+    top.add_argument("--version", action=Version)
     commands = top.add_subparsers(dest="command", required=True, metavar="COMMAND")
     pack = commands.add_parser("pack", help="the text form of a job to the job's bytes")
     unpack = commands.add_parser("unpack", help="a job's bytes to its text form")
