@@ -21,6 +21,12 @@
 #include <stddef.h>
 #include <stdint.h>
 
+/* The version, which the package and the tool have from here. */
+#define MAIZESPELL_VERSION_MAJOR 0
+#define MAIZESPELL_VERSION_MINOR 2
+#define MAIZESPELL_VERSION_PATCH 0
+#define MAIZESPELL_VERSION "0.2.0"
+
 #ifdef __cplusplus
 extern "C" {
 #endif
@@ -92,11 +98,14 @@ struct maizespell_routing_result {
 };
 
 /* Routes a job. The needs of map and work are those that sizing gives. How many bytes the plan needs is known
- * only after routing: lend a guess, and where it is refused by 14, call again with the place's number of
- * bytes. After success the needed part of the map holds the codes above, and the needed part of work is zero.
- * After 14 the needed parts of map and work and the whole plan slice are zero. After 1 to 13 every slice is
- * as found. What lies past the needs of map and work, and after success past the plan's bytes, is as found.
- */
+ * only after routing. With joins the number of all pins less that of nets, and work as sizing answers, it has
+ * at most (joins x (work + 78) + 7) / 8 bytes, most often far fewer. Lend a guess first, such as 5 x job_len +
+ * vertices, which is enough for most jobs, and where it is refused by 14, call again with the place's number
+ * of bytes.
+ *
+ * After success the needed part of the map holds the codes above, and the needed part of work is zero. After
+ * 14 the needed parts of map and work and the whole plan slice are zero. After 1 to 13 every slice is as
+ * found. What lies past the needs of map and work, and after success past the plan's bytes, is as found. */
 struct maizespell_routing_result maizespell_routing(const uint8_t *job, size_t job_len, uint16_t *map, size_t map_len,
                                                     uint64_t *work, size_t work_len, uint8_t *plan, size_t plan_len);
 

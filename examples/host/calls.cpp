@@ -6,9 +6,6 @@
 namespace host {
 namespace {
 
-// Enough for a net of two pins not far apart.
-constexpr std::size_t first_plan_bytes = 16;
-
 // The totals of a result of routing or replay.
 template <class Result> Totals totals_of(const Result &result) {
     return {result.cost, result.added, result.penalties, result.joined};
@@ -38,10 +35,15 @@ Needs size(const Bytes &job) {
     return {result.vertices, result.work};
 }
 
+// A join takes 80 bits of the plan and 2 for each move; a pin takes 19 bits of the job and is joined once at
+// most. So five times the job's bytes have room for every join without its moves, and a byte for each vertex
+// has room for four moves to it. More is needed only where many long joins run over the same vertices.
+std::size_t plan_guess(const Bytes &job, const Needs &needs) { return 5 * job.size() + needs.map; }
+
 Routed route(const Bytes &job, const Needs &needs) {
     Map map(needs.map);
     Work work(needs.work);
-    Bytes plan(first_plan_bytes);
+    Bytes plan(plan_guess(job, needs));
     maizespell_routing_result result = lend_to_routing(job, map, work, plan);
     if (result.refusal == MAIZESPELL_PLAN_SHORT) {
         plan = Bytes(result.place);

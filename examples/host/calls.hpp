@@ -40,7 +40,11 @@ struct Routed {
 
 Needs size(const Bytes &job);
 
-// The plan's need is known only after routing: a short plan is lent first, then what the refusal asks for.
+// Plan bytes that are enough for most jobs.
+std::size_t plan_guess(const Bytes &job, const Needs &needs);
+
+// The plan's need is known only after routing: the guess is lent first, and where it is short, what the
+// refusal asks for.
 Routed route(const Bytes &job, const Needs &needs);
 
 Joined replay(const Bytes &job, const Bytes &plan, const Needs &needs);

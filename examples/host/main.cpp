@@ -16,6 +16,12 @@ namespace {
 
 enum Exit { routed_well = 0, was_refused = 1, no_job = 2, not_confirmed = 3 };
 
+constexpr const char *usage = "usage: host JOB-FILE [PLAN-FILE]\n";
+constexpr const char *help =
+    "Routes the job whose bytes are in JOB-FILE, replays its plan, and prints totals and map.\n"
+    "The plan's bytes go to PLAN-FILE, if one is named.\n"
+    "Exit status: 0 routed, 1 refused, 2 bad usage or file, 3 replay does not confirm the plan.\n";
+
 // Replay must give the map and the totals that came with the plan.
 bool confirmed(const host::Bytes &job, const host::Needs &needs, const host::Routed &routed) {
     try {
@@ -46,10 +52,14 @@ int run(const std::string &path, const std::string *plan_path) {
 
 int main(int count, char **arguments) {
     if (count != 2 && count != 3) {
-        std::cerr << "usage: host JOB-FILE [PLAN-FILE]\n";
+        std::cerr << usage;
         return no_job;
     }
     const std::string path = arguments[1];
+    if (path == "--help" || path == "-h") {
+        std::cout << usage << help;
+        return routed_well;
+    }
     const std::string plan_path = count == 3 ? arguments[2] : "";
     try {
         return run(path, count == 3 ? &plan_path : nullptr);

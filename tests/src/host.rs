@@ -2,6 +2,9 @@
 
 use std::fmt::Write;
 
+use crate::grid::vertex;
+use crate::job::Job;
+use crate::marked::{plain, plain_layers};
 use crate::plan::pack;
 use crate::reader::{read, Refusal};
 use crate::router::route;
@@ -33,6 +36,29 @@ pub fn written(job: &[u8]) -> Result<String, Refusal> {
         text.extend(codes.chunks(columns).map(row));
     }
     Ok(text)
+}
+
+/// A job whose nets all run along the one row of the top layer, since each other's pins
+/// are in their way below: its plan is longer than the host's guess.
+pub fn crowded() -> Job {
+    let (nets, columns) = (40, 256);
+    let pins = |net| [vertex(0, 0, net), vertex(0, 0, columns - 1 - net)];
+    let pins: Vec<_> = (0..nets).map(pins).collect();
+    let pins: Vec<_> = pins.iter().map(|pins| &pins[..]).collect();
+    Job {
+        rows: 1,
+        columns,
+        short_penalty: 0,
+        layers: plain_layers(3),
+        ..plain(&pins)
+    }
+}
+
+/// The bytes that a plan of a job has at most, by the header.
+pub fn most_plan_bytes(job: &Job) -> usize {
+    let joins: usize = job.nets.iter().map(|net| net.pins.len() - 1).sum();
+    let work = Board::new(job).work_need();
+    (joins * (work + 78)).div_ceil(8)
 }
 
 fn row(codes: &[u16]) -> String {

@@ -11,9 +11,11 @@
 //!   jobs and plans replay is asked about, `lent` which jobs and slices routing is, and
 //!   `seen` what came up. `guarded` makes the calls on slices between pages that cannot
 //!   be touched, `fuzz` asks all of them so, `stack` makes them with little stack.
+//! - `built` finds the library, the program and the host.
 
 pub mod bits;
 pub mod brute;
+pub mod built;
 pub mod compare;
 pub mod damage;
 pub mod fuzz;

@@ -4,18 +4,21 @@
 //! `examples/host/build` puts the programs into the folder that MAIZESPELL_HOST_DIR
 //! names, or into `../target/host`.
 
-use std::env;
 use std::fs;
 use std::path::{Path, PathBuf};
 use std::process::{Command, Output};
 
+use maizespell_tests::built;
 use maizespell_tests::damage::aimed;
 use maizespell_tests::generate::routable::{routable_job, Size};
-use maizespell_tests::host::written;
+use maizespell_tests::host::{crowded, most_plan_bytes, written};
 use maizespell_tests::job::Job;
+use maizespell_tests::library::ROUTING;
 use maizespell_tests::marked;
+use maizespell_tests::plan::pack;
 use maizespell_tests::random::Random;
 use maizespell_tests::reader::Refusal;
+use maizespell_tests::routing::routed_by;
 
 const SEED: u64 = 1_707;
 const TINY_JOBS: usize = 20;
@@ -24,18 +27,11 @@ const SMALL_JOBS: usize = 4;
 /// Each is run on the same files.
 const HOSTS: [&str; 2] = ["host", "host-sanitized"];
 
-fn program(name: &str) -> PathBuf {
-    let folder = match env::var_os("MAIZESPELL_HOST_DIR") {
-        Some(folder) => PathBuf::from(folder),
-        None => Path::new(env!("CARGO_MANIFEST_DIR")).join("../target/host"),
-    };
-    folder.join(name)
-}
-
 fn run(name: &str, files: &[PathBuf]) -> Output {
-    let mut command = Command::new(program(name));
+    let program = built::host(name).unwrap_or_else(|how| panic!("{how}"));
+    let mut command = Command::new(program);
     command.args(files);
-    command.output().expect("examples/host/build was run")
+    command.output().expect("the host runs")
 }
 
 /// A file with these bytes.
@@ -45,11 +41,13 @@ fn file(name: &str, bytes: &[u8]) -> PathBuf {
     path
 }
 
-/// The marked jobs, one without nets, and generated ones.
+/// The marked jobs, one without nets, one whose plan is longer than the host's guess,
+/// and generated ones.
 fn good_jobs() -> Vec<Job> {
     let mut random = Random::new(SEED);
     let mut jobs: Vec<Job> = marked::all().into_iter().map(|(_, job)| job).collect();
     jobs.push(marked::plain(&[]));
+    jobs.push(crowded());
     jobs.extend((0..TINY_JOBS).map(|_| routable_job(Size::Tiny, &mut random)));
     jobs.extend((0..SMALL_JOBS).map(|_| routable_job(Size::Small, &mut random)));
     jobs
@@ -104,9 +102,57 @@ fn bad_jobs_get_their_refusals() {
 #[test]
 fn wrong_usage_is_told_from_a_refusal() {
     for host in HOSTS {
-        assert_eq!(run(host, &[]).status.code(), Some(2), "{host}");
+        check_said(&run(host, &[]), 2, "usage: host JOB-FILE [PLAN-FILE]\n");
         let missing = [PathBuf::from("no such job")];
-        assert_eq!(run(host, &missing).status.code(), Some(2), "{host}");
+        let said = "no such job: cannot be opened\n";
+        check_said(&run(host, &missing), 2, said);
+    }
+}
+
+/// One line on standard error, nothing on standard output.
+fn check_said(output: &Output, status: i32, line: &str) {
+    assert_eq!(String::from_utf8_lossy(&output.stderr), line);
+    assert_eq!(output.status.code(), Some(status), "{line}");
+    assert!(output.stdout.is_empty(), "{line}");
+}
+
+#[test]
+fn help_is_asked_for_and_given() {
+    for host in HOSTS {
+        for asked in ["--help", "-h"] {
+            let output = run(host, &[PathBuf::from(asked)]);
+            let said = String::from_utf8_lossy(&output.stdout);
+            let begin = "usage: host JOB-FILE [PLAN-FILE]\nRoutes the job";
+            assert!(said.starts_with(begin), "{host}: {said}");
+            assert_eq!(output.status.code(), Some(0), "{host}");
+            assert!(output.stderr.is_empty(), "{host}");
+        }
+    }
+}
+
+#[test]
+fn the_build_says_what_it_expects() {
+    let build = Path::new(env!("CARGO_MANIFEST_DIR")).join("../examples/host/build");
+    let run = |arguments: &[&str]| {
+        let mut command = Command::new(&build);
+        command.args(arguments).output().expect("the build runs")
+    };
+    let such = "such as target/staticlib/librouter.a target/host";
+    let usage = format!("usage: examples/host/build LIBRARY FOLDER, {such}\n");
+    for arguments in [&[][..], &["library"], &["library", "folder", "more"]] {
+        check_said(&run(arguments), 2, &usage);
+    }
+    let how = "'rt staticlib router' builds target/staticlib/librouter.a";
+    let missing = format!("there is no library none.a: {how}\n");
+    check_said(&run(&["none.a", "folder"]), 2, &missing);
+}
+
+/// "At most (joins x (work + 78) + 7) / 8 bytes."
+#[test]
+fn plans_are_within_the_bound_of_the_header() {
+    for job in good_jobs() {
+        let bytes = pack(&routed_by(ROUTING, &job).records).len();
+        assert!(bytes <= most_plan_bytes(&job), "{bytes} bytes");
     }
 }
 
@@ -121,4 +167,7 @@ fn slices_are_kept_to() {
     let output = run("slices", &files);
     let message = String::from_utf8_lossy(&output.stderr);
     assert!(output.status.success(), "{}: {message}", output.status);
+    let (all, guessed) = (jobs.len(), jobs.len() - 1);
+    let said = format!("{all} jobs with guarded slices, {guessed} plans within the guess\n");
+    assert_eq!(String::from_utf8_lossy(&output.stdout), said);
 }

@@ -1,8 +1,7 @@
 //! The program itself on files of jobs: one line, that of the second program.
 //!
-//! MAIZESPELL_PROGRAM names it.
+//! MAIZESPELL_PROGRAM names it, or it is `../target/bin/maizespell`.
 
-use std::env;
 use std::fs::{self, File};
 use std::io::Write;
 use std::path::{Path, PathBuf};
@@ -10,6 +9,7 @@ use std::process::{Command, Output, Stdio};
 use std::thread;
 use std::time::Duration;
 
+use maizespell_tests::built;
 use maizespell_tests::marked;
 use maizespell_tests::program::{edges, generated, line, Input};
 
@@ -17,8 +17,7 @@ const SEED: u64 = 65_536;
 const JOBS: u32 = 150;
 
 fn program() -> PathBuf {
-    let path = env::var_os("MAIZESPELL_PROGRAM");
-    PathBuf::from(path.expect("MAIZESPELL_PROGRAM names the program"))
+    built::program().unwrap_or_else(|how| panic!("{how}"))
 }
 
 /// Runs the program on a file with these bytes.

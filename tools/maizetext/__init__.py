@@ -12,5 +12,5 @@
     svg, colours, panel                         elements, the nets' colours, and where a layer stands
     ground, wiring, legend, draw                what a job draws, what a plan draws, what the marks mean, and the picture
     route                                       the program run on a job
-    files, arguments, commands                  the tool's files, its command line and its commands
+    files, version, arguments, commands         the tool's files, its version, its command line and its commands
 """

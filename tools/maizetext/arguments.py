@@ -1,7 +1,12 @@
 """The tool's command line."""
 
 import argparse
-from typing import NoReturn
+from typing import Any, NoReturn
+
+from maizetext.version import version
+
+PROGRAM_IS = "the program (else MAIZESPELL_PROGRAM, else target/bin/maizespell, else maizespell on the PATH)"
+PLAN_FORMS = "a plan, as bytes or as hexadecimal, such as the program's line"
 
 
 class Parser(argparse.ArgumentParser):
@@ -11,9 +16,30 @@ class Parser(argparse.ArgumentParser):
         self.exit(2, f"{self.prog}: {message}; see '{self.prog} --help'\n")
 
 
+class Version(argparse.Action):
+    """Says the version, which is looked up only when it is asked for."""
+
+    def __init__(self, option_strings: list[str], dest: str, **_: Any) -> None:
+        super().__init__(option_strings, dest, nargs=0, help="say the version and exit")
+
+    def __call__(self, parser: argparse.ArgumentParser, *_: Any) -> None:
+        print(f"maize {version()}")
+        parser.exit()
+
+
+def arguments() -> argparse.Namespace:
+    """The command line, read and judged."""
+    top = parser()
+    given = top.parse_args()
+    if given.job == "-" and getattr(given, "plan", None) == "-":
+        top.error("JOB and PLAN are both standard input (-), expected a file for one of them")
+    return given
+
+
 def parser() -> Parser:
     """All commands with their arguments."""
     top = Parser(prog="maize", description="Jobs and plans that one can read. FILE - is standard input.")
+    top.add_argument("--version", action=Version)
     commands = top.add_subparsers(dest="command", required=True, metavar="COMMAND")
     pack = commands.add_parser("pack", help="the text form of a job to the job's bytes")
     unpack = commands.add_parser("unpack", help="a job's bytes to its text form")
@@ -24,9 +50,9 @@ def parser() -> Parser:
     unpack.add_argument("job", metavar="JOB", help="a job's bytes")
     for command in (explain, draw, route):
         command.add_argument("job", metavar="JOB", help="a job, as text or bytes")
-    explain.add_argument("plan", metavar="PLAN", help="a plan, as bytes or as the program's line")
-    draw.add_argument("plan", metavar="PLAN", nargs="?", help="a plan, as bytes or as the program's line")
+    explain.add_argument("plan", metavar="PLAN", help=PLAN_FORMS)
+    draw.add_argument("plan", metavar="PLAN", nargs="?", help=PLAN_FORMS)
     router = route.add_mutually_exclusive_group()
-    router.add_argument("--program", metavar="PATH", help="the program (else MAIZESPELL_PROGRAM, else target/bin/maizespell)")
+    router.add_argument("--program", metavar="PATH", help=PROGRAM_IS)
     router.add_argument("--host", metavar="PATH", help="the host of examples/host, which routes larger jobs too")
     return top

@@ -7,7 +7,7 @@ from maizetext.draw import draw
 from maizetext.errors import InputError
 from maizetext.explain import explain
 from maizetext.files import (
-    bytes_from_either, job_from_bytes, job_from_either, job_from_text, plan_from_either, read_file
+    bytes_from_either, job_from_bytes, job_from_either, job_from_text, opened, plan_from_either, read_file
 )
 from maizetext.job_packing import pack_job
 from maizetext.replay import replay
@@ -17,7 +17,9 @@ from maizetext.text_writing import write_text
 
 def pack_command(given: Namespace) -> int:
     """Text to bytes."""
-    sys.stdout.buffer.write(pack_job(job_from_text(given.job, read_file(given.job))))
+    with opened(given.job) as file:
+        job = job_from_text(given.job, file)
+    sys.stdout.buffer.write(pack_job(job))
     return 0
 
 
@@ -51,10 +53,11 @@ def route_command(given: Namespace) -> int:
     """The plan of the program or of the host, summed up."""
     data = bytes_from_either(given.job, read_file(given.job))
     if given.host is not None:
-        plan = plan_by_host(given.host, given.job, data)
+        router, plan_by = given.host, plan_by_host
     else:
-        plan = plan_by_program(program_path(given.program), given.job, data)
-    write(summary(job_from_bytes(given.job, data), plan))
+        router, plan_by = program_path(given.program), plan_by_program
+    plan = plan_by(router, given.job, data)
+    write(summary(job_from_bytes(given.job, data), plan, router))
     return 0
 
 

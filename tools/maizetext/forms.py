@@ -4,7 +4,7 @@ from dataclasses import dataclass
 from typing import Any, Callable, Optional
 
 from maizetext.job import CLOSED
-from maizetext.statements import Statement, Statements
+from maizetext.statements import Statement, Statements, shown
 
 Parse = Callable[[str], Optional[Any]]
 
@@ -30,9 +30,9 @@ def span(word: str, high: int) -> Optional[tuple[int, int]]:
     return tuple(ends) if len(ends) == 2 and None not in ends else None
 
 
-def numbers(low: int, high: int) -> Field:
+def numbers(low: int, high: int, what: str = "a number") -> Field:
     """A number from low to high."""
-    return Field(f"a number from {low} to {high}", lambda word: number(word, low, high))
+    return Field(f"{what} from {low} to {high}", lambda word: number(word, low, high))
 
 
 def spans(high: int) -> Field:
@@ -64,7 +64,7 @@ class Form:
         """The next statement by this form: its line, and its fields' values in order."""
         statement = statements.take(str(self))
         if statement.keyword() != self.keyword:
-            raise statements.error(statement.line, f"expected {self}, found '{statement.keyword()}'")
+            raise statements.error(statement.line, f"expected {self}, found {shown(statement.keyword())}")
         values = []
         for index, word in enumerate(self.words):
             found = statement.words[index] if index < len(statement.words) else None
@@ -86,13 +86,13 @@ class Form:
 
     def _complaint(self, word: str, found: Optional[str]) -> str:
         expected = f"{word}, {self.fields[word].expected}," if word in self.fields else f"'{word}'"
-        said = "the end of the line" if found is None else f"'{found}'"
+        said = "the end of the line" if found is None else shown(found)
         return f"expected {expected} in {self}, found {said}"
 
     def _check_end(self, statement: Statement, statements: Statements) -> None:
         if len(statement.words) > len(self.words):
             more = statement.words[len(self.words)]
-            raise statements.error(statement.line, f"expected the end of the line after {self}, found '{more}'")
+            raise statements.error(statement.line, f"expected the end of the line after {self}, found {shown(more)}")
 
 
 LAYER, ROW, COLUMN = numbers(0, 7), numbers(0, 255), numbers(0, 255)
@@ -108,7 +108,11 @@ GRID_FORM = Form(
 GUIDE_FORM = Form("guide PRICE", PRICE=PRICE)
 SHORT_FORM = Form("short PRICE", PRICE=PRICE)
 LAYER_FORM = Form(
-    "layer wire WIRE via VIA min M area PRICE", WIRE=numbers(0, 1023), VIA=numbers(0, 1023), M=numbers(0, 15), PRICE=PRICE
+    "layer wire WIRE via VIA min M area PRICE",
+    WIRE=numbers(1, 1023, "a wire price"),
+    VIA=Field("a via price from 1 to 1023, or 0 on the top layer", lambda word: number(word, 0, 1023)),
+    M=numbers(1, 15, "a minimum length"),
+    PRICE=PRICE,
 )
 OBSTACLE_FORM = Form("obstacle LAYER ROW COLUMN run RUN", LAYER=LAYER, ROW=ROW, COLUMN=COLUMN, RUN=numbers(1, 256))
 NET_FORM = Form("net")

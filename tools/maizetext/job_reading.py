@@ -58,13 +58,13 @@ def read_layer(bits: BitReader, top: bool) -> Layer:
     at = bits.group(LAYER, NOT_WHOLE)
     layer = Layer(bits.take(10), bits.take(10), bits.take(4), bits.take(16))
     if layer.wire == 0:
-        raise Refused(5, at, "the wire price is 0, it must be 1 at least")
+        raise Refused(5, at, "the wire price is 0, it must be from 1 to 1023")
     if top and layer.via != 0:
         raise Refused(5, at + 10, f"the via price of the top layer is {layer.via}, it must be 0")
     if not top and layer.via == 0:
-        raise Refused(5, at + 10, "the via price is 0, below the top layer it must be 1 at least")
+        raise Refused(5, at + 10, "the via price is 0, below the top layer it must be from 1 to 1023")
     if layer.min_length == 0:
-        raise Refused(5, at + 20, "the minimum length is 0, it must be 1 at least")
+        raise Refused(5, at + 20, "the minimum length is 0, it must be from 1 to 15")
     return layer
 
 

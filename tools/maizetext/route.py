@@ -13,12 +13,15 @@ from maizetext.replay import NetTrace, Trace, replay
 from maizetext.words import job_line, totals_line, vertices
 
 BUILT = Path(__file__).resolve().parents[2] / "target" / "bin" / "maizespell"
-"""Where the program is built."""
+"""Where the repository's program is built."""
+
+HOST_IS = "--host expects the host that examples/host/build builds"
+HOW = "'rt check maizespell' builds it as target/bin/maizespell, or --program or --host names one"
 
 
 def program_path(given: Optional[str]) -> str:
-    """The program's file: as given, or as MAIZESPELL_PROGRAM says, or as built."""
-    return given or os.environ.get("MAIZESPELL_PROGRAM") or str(BUILT)
+    """The program's file: as given, or as MAIZESPELL_PROGRAM says, or as built, or else one on the PATH."""
+    return given or os.environ.get("MAIZESPELL_PROGRAM") or (str(BUILT) if BUILT.exists() else BUILT.name)
 
 
 def run_program(program: str, job: bytes) -> bytes:
@@ -26,7 +29,7 @@ def run_program(program: str, job: bytes) -> bytes:
     try:
         done = subprocess.run([program], input=job, stdout=subprocess.PIPE, check=False)
     except OSError as error:
-        raise InputError(f"can't run the program {program}: {error.strerror}") from None
+        raise InputError(f"can't run the program {program}: {error.strerror}; {HOW}") from None
     if done.returncode != 0:
         raise InputError(f"the program {program} ended with status {done.returncode}")
     return done.stdout
@@ -47,19 +50,28 @@ def plan_by_host(host: str, path: str, job: bytes) -> bytes:
         job_file, plan_file = Path(folder, "job"), Path(folder, "plan")
         job_file.write_bytes(job)
         try:
-            done = subprocess.run([host, str(job_file), str(plan_file)], capture_output=True, text=True, check=False)
+            done = subprocess.run([host, str(job_file), str(plan_file)], capture_output=True, check=False)
         except OSError as error:
-            raise InputError(f"can't run the host {host}: {error.strerror}") from None
-        if done.returncode != 0:
-            raise InputError(f"{path}: {done.stderr.strip().removeprefix(f'{job_file}: ')}")
+            raise InputError(f"can't run the host {host}: {error.strerror}; {HOST_IS}") from None
+        if done.returncode != 0 or not plan_file.is_file():
+            raise InputError(f"{path}: {why_no_plan(host, str(job_file), done)}")
         return plan_file.read_bytes()
 
 
-def summary(job: Job, plan: bytes) -> str:
-    """What a plan makes of a job, net by net."""
+def why_no_plan(host: str, job_file: str, done: subprocess.CompletedProcess) -> str:
+    """What the host says of the job's file, or that it is not the host."""
+    said = done.stderr.decode("utf-8", "replace").strip().split("\n")[0]
+    if said.startswith(f"{job_file}: "):
+        return said.removeprefix(f"{job_file}: ")
+    wrote = f"no plan: {host} wrote none and ended with status {done.returncode}"
+    return f"{wrote}{f', saying {said!r}' if said else ''}; {HOST_IS}"
+
+
+def summary(job: Job, plan: bytes, router: str) -> str:
+    """What a router's plan makes of a job, net by net."""
     trace = replay(job, plan)
     if trace.broken:
-        raise InputError(f"the program's plan breaks: {trace.broken}")
+        raise InputError(f"the plan of {router} breaks: {trace.broken}")
     return "".join(line + "\n" for line in summary_lines(job, trace))
 
 

@@ -1,6 +1,6 @@
 """The lines of a text that say something, one after the other."""
 
-from typing import NamedTuple, Optional
+from typing import Iterable, NamedTuple, Optional
 
 from maizetext.errors import InputError
 
@@ -16,25 +16,39 @@ class Statement(NamedTuple):
         return self.words[0]
 
 
-def statements_of(text: str) -> list[Statement]:
-    """All statements; `#` begins a comment that ends with its line, and blank lines say nothing."""
-    lines = enumerate(text.split("\n"), start=1)
-    split = (Statement(number, line.split("#", 1)[0].split()) for number, line in lines)
-    return [statement for statement in split if statement.words]
+MOST_SHOWN = 40
+"""Characters of a word that a message repeats."""
+
+
+def shown(word: str) -> str:
+    """A word as a message repeats it, cut where it is long."""
+    return f"'{word}'" if len(word) <= MOST_SHOWN else f"'{word[:MOST_SHOWN]}...'"
 
 
 class Statements:
-    """A cursor over a text's statements that knows the text's file."""
+    """A cursor over a text's statements that knows the text's file. It takes no line before it is asked for."""
 
-    def __init__(self, text: str, file: str) -> None:
-        self._statements = statements_of(text)
-        self._next = 0
-        self._last_line = text.rstrip("\n").count("\n") + 1
+    def __init__(self, lines: Iterable[str], file: str) -> None:
+        self._lines = enumerate(lines, start=1)
+        self._ahead: Optional[Statement] = None
+        self._last_line = 1
         self.file = file
+
+    def _read(self) -> Optional[Statement]:
+        """The next line that says something; `#` begins a comment that ends with its line."""
+        for number, line in self._lines:
+            if line.rstrip("\n"):
+                self._last_line = number
+            words = line.split("#", 1)[0].split()
+            if words:
+                return Statement(number, words)
+        return None
 
     def peek(self) -> Optional[Statement]:
         """The next statement, or none at the end."""
-        return self._statements[self._next] if self._next < len(self._statements) else None
+        if self._ahead is None:
+            self._ahead = self._read()
+        return self._ahead
 
     def next_is(self, keyword: str) -> bool:
         """Whether the next statement is of this kind."""
@@ -46,7 +60,7 @@ class Statements:
         statement = self.peek()
         if statement is None:
             raise self.error(self._last_line, f"expected {expected}, found the end of the text")
-        self._next += 1
+        self._ahead = None
         return statement
 
     def error(self, line: int, message: str) -> InputError:

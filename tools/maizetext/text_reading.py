@@ -5,7 +5,7 @@ line whose group holds that bit.
 """
 
 from bisect import bisect_right
-from typing import Any, Iterator
+from typing import Any, Iterable, Iterator
 
 from maizetext.errors import InputError
 from maizetext.forms import (
@@ -16,12 +16,17 @@ from maizetext.job import MOST_BOXES, MOST_NETS, MOST_OBSTACLES, MOST_PINS, Box,
 from maizetext.job_packing import group_starts, pack_job
 from maizetext.job_reading import read_job
 from maizetext.refusals import Refused
-from maizetext.statements import Statements
+from maizetext.statements import Statements, shown
 
 
 def read_text(text: str, file: str) -> Job:
     """A good job from its text form; `file` names it in errors."""
-    reader = TextReader(Statements(text, file))
+    return read_lines(text.split("\n"), file)
+
+
+def read_lines(lines: Iterable[str], file: str) -> Job:
+    """A good job from the lines of its text form. No line is taken after the first that is wrong."""
+    reader = TextReader(Statements(lines, file))
     job = reader.job()
     try:
         read_job(pack_job(job))
@@ -91,7 +96,7 @@ class TextReader:
         if statement is None:
             return
         expected = "'obstacle'" if not nets else "'box'" if nets[-1].boxes else "'pin', 'box'"
-        found = f"found '{statement.keyword()}'"
+        found = f"found {shown(statement.keyword())}"
         raise self._statements.error(statement.line, f"expected {expected}, 'net' or the end of the text, {found}")
 
 

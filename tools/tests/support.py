@@ -13,4 +13,4 @@ sys.path.insert(0, str(TOOLS))
 def maize(*arguments, given: bytes = b"", **environment: str) -> subprocess.CompletedProcess:
     """The tool with these arguments and this standard input."""
     command = [sys.executable, str(TOOLS / "maize"), *map(str, arguments)]
-    return subprocess.run(command, input=given, capture_output=True, check=False, env=environment or None)
+    return subprocess.run(command, input=given, capture_output=True, check=False, env=environment or None, timeout=100)

@@ -81,6 +81,16 @@ class Refusals(unittest.TestCase):
         ):
             self.refused(job_with(layers=layers), 5, place)
 
+    def test_layer_lines_are_told_their_ranges(self):
+        for layer, part in (
+            (Layer(0, 2, 3, 50), "the wire price is 0, it must be from 1 to 1023"),
+            (Layer(1, 0, 3, 50), "the via price is 0, below the top layer it must be from 1 to 1023"),
+            (Layer(1, 2, 0, 50), "the minimum length is 0, it must be from 1 to 15"),
+        ):
+            with self.assertRaises(Refused) as caught:
+                read_job(job_with(layers=(layer, LAYERS[1])))
+            self.assertIn(part, str(caught.exception))
+
     def test_obstacles(self):
         inside = Obstacle(Vertex(0, 3, 5), 3)
         for outside in (Obstacle(Vertex(0, 3, 5), 4), Obstacle(Vertex(2, 0, 0), 1), Obstacle(Vertex(1, 1, 0), 4)):

@@ -5,7 +5,7 @@ import unittest
 import support  # noqa: F401
 from maizetext.errors import InputError
 from maizetext.job import CLOSED, Layer
-from maizetext.text_reading import read_text
+from maizetext.text_reading import read_lines, read_text
 
 GOOD = """\
 # a comment
@@ -40,12 +40,13 @@ SWAPPED = [
     ("guide 10", "guide 65535", 5, "expected PRICE, a price from 0 to 65534, or 'closed',"),
     ("guide 10", "short 10", 5, "expected 'guide PRICE', found 'short'"),
     ("short closed", "short open", 6, "found 'open'"),
-    ("wire 1 via 2", "wire 0 via 2", 7, "the wire price is 0, it must be 1 at least (refusal 5)"),
-    ("wire 1 via 2", "wire 1024 via 2", 7, "expected WIRE, a number from 0 to 1023,"),
-    ("via 2", "via 0", 7, "below the top layer it must be 1 at least (refusal 5)"),
+    ("wire 1 via 2", "wire 0 via 2", 7, "expected WIRE, a wire price from 1 to 1023, in 'layer wire WIRE via VIA"),
+    ("wire 1 via 2", "wire 1024 via 2", 7, "expected WIRE, a wire price from 1 to 1023,"),
+    ("via 2", "via 0", 7, "the via price is 0, below the top layer it must be from 1 to 1023 (refusal 5)"),
+    ("via 2", "via 1024", 7, "expected VIA, a via price from 1 to 1023, or 0 on the top layer,"),
     ("via 0", "via 2", 8, "the via price of the top layer is 2, it must be 0 (refusal 5)"),
-    ("min 3 area 50", "min 0 area 50", 7, "the minimum length is 0, it must be 1 at least (refusal 5)"),
-    ("min 3 area 50", "min 16 area 50", 7, "expected M, a number from 0 to 15,"),
+    ("min 3 area 50", "min 0 area 50", 7, "expected M, a minimum length from 1 to 15,"),
+    ("min 3 area 50", "min 16 area 50", 7, "expected M, a minimum length from 1 to 15,"),
     ("layer wire 1 via 2 min 3 area 50\n", "", 8, "expected 'layer wire WIRE"),
     ("run 4", "run 5", 9, "an obstacle lies outside the grid, whole or in part: it runs from (1,0,5) to (1,4,5) (refusal 6)"),
     ("run 4", "run 0", 9, "expected RUN, a number from 1 to 256,"),
@@ -84,6 +85,19 @@ class TextErrors(unittest.TestCase):
                 self.assertTrue(message.startswith(f"job.txt:{line}: "), message)
                 self.assertIn(part, message)
 
+    def test_a_long_word_is_cut(self):
+        for old in ("edition", "1\n\ngrid", "8 direction"):
+            message = self.complaint(GOOD.replace(old, "9" * 5000 + old, 1))
+            self.assertIn("found '" + "9" * 40 + "...'", message)
+            self.assertLess(len(message), 200)
+
+    def test_no_line_is_taken_after_a_wrong_one(self):
+        taken = []
+        lines = (taken.append(line) or line for line in GOOD.replace("grid", "grit").split("\n"))
+        with self.assertRaises(InputError):
+            read_lines(lines, "job.txt")
+        self.assertEqual(len(taken), 4)
+
     def test_what_follows_the_end(self):
         self.assertIn("job.txt:14: expected 'box', 'net' or the end of the text, found 'pin'", self.complaint(GOOD + "pin 0 0 5\n"))
         self.assertIn("job.txt:14: expected 'pin LAYER ROW COLUMN', found the end of the text", self.complaint(GOOD + "net\n"))
@@ -104,7 +118,7 @@ class TextErrors(unittest.TestCase):
     def test_fields_have_ends(self):
         for old, new in (
             ("layers 2", "layers 0"), ("rows 4", "rows 0"), ("rows 4", "rows 257"), ("columns 8", "columns 0"),
-            ("columns 8", "columns 257"), ("via 2", "via 1024"), ("obstacle 1", "obstacle 8"), ("1 0 5", "1 256 5"),
+            ("columns 8", "columns 257"), ("obstacle 1", "obstacle 8"), ("1 0 5", "1 256 5"),
             ("1 0 5", "1 0 256"), ("run 4", "run 257"), ("pin 0", "pin 8"), ("0 0 3", "0 256 3"), ("0 0 3", "0 0 256"),
             ("0..1", "0..8"), ("0..3", "0..256"), ("0..4", "0..256"), ("0..4", "256..256"),
         ):

@@ -7,6 +7,7 @@ from pathlib import Path
 from unittest import mock
 
 import support
+from maizetext import route
 from maizetext.route import program_path
 from marked import job_bytes, plan_bytes
 from support import EXAMPLES, maize
@@ -61,7 +62,17 @@ class Packing(Folder):
 
     def test_a_text_that_is_none(self):
         self.fails(maize("pack", self.file("bad.txt", b"edition 1\ngrid \xff")), 1, "bad.txt:2: expected text in UTF-8, found byte FF")
-        self.fails(maize("pack", EXAMPLES / "a.job"), 1, "a.job:1: expected 'edition EDITION'")
+        self.fails(maize("pack", EXAMPLES / "a.job"), 1, "a.job:1: expected a job's text form, found the control byte 11\n")
+        self.fails(maize("pack", self.file("long", b"#" * 65_537)), 1, "long:1: expected a line of at most 65536 bytes")
+        self.assertEqual(maize("pack", self.file("long", b"#" * 65_535 + b"\n" + A.read_bytes())).stdout, job_bytes("A"))
+
+    def test_a_huge_text_that_is_none_is_not_read_whole(self):
+        for begin in (b"", b"\xff\n", b"seven\n", b"7" * 65_536 + b"\n", b"7" * 70_000):
+            huge = self.file("huge", begin)
+            os.truncate(huge, 1 << 40)
+            done = maize("pack", huge)
+            self.fails(done, 1, "huge:1: expected ")
+            self.assertLess(len(done.stderr) - len(str(huge)), 120)
 
     def test_bad_bytes_are_refused(self):
         self.fails(maize("unpack", self.file("bad", job_bytes("A") + b"\x00")), 1, "refused 11 at 206: a bit after the last field")
@@ -80,6 +91,16 @@ class Plans(Folder):
         self.assertEqual(len(said), 1)
         self.assertIn(b"cost 3, as recorded", said.pop())
 
+    def test_a_plan_in_hexadecimal_of_any_kind(self):
+        digits = plan_bytes("A").hex()
+        spaced = plan_bytes("A").hex(" ")
+        for given in (digits, digits.upper(), digits + "\n", spaced, f" {spaced} \r\n", f"{digits[:8]}\n{digits[8:]}\n"):
+            done = maize("explain", A, "-", given=given.encode())
+            self.assertEqual((done.returncode, done.stderr), (0, b""), given)
+            self.assertIn(b"cost 3, as recorded", done.stdout)
+        for given in (digits[:-1], "8", "8 0 0", "800 00"):
+            self.fails(maize("explain", A, "-", given=given.encode()), 1, "-: expected a plan in hexadecimal, two digits a byte")
+
     def test_explain_exits_with_1_where_a_plan_breaks(self):
         done = maize("explain", A, self.file("plan", plan_bytes("B")))
         self.assertEqual((done.returncode, done.stderr), (1, b""))
@@ -94,7 +115,7 @@ class Plans(Folder):
 
     def test_a_line_that_is_no_plan(self):
         self.fails(maize("explain", A, self.file("plan", b"refused 5 at 100\n")), 1, "refused the job, 5 at 100: a layer line's rule")
-        self.fails(maize("draw", A, self.file("plan", b"too large\n")), 1, "too large for the program")
+        self.fails(maize("draw", A, self.file("plan", b"too large\n")), 1, "too large for the program (at most 256 vertices")
 
     def test_draw(self):
         alone = maize("draw", A)
@@ -117,6 +138,8 @@ class Usage(Folder):
             (("explain", A), "required: PLAN"),
             (("unpack", A, A), "unrecognized arguments"),
             (("route", "--program"), "expected one argument"),
+            (("explain", "-", "-"), "JOB and PLAN are both standard input (-), expected a file for one of them"),
+            (("draw", "-", "-"), "JOB and PLAN are both standard input (-)"),
         ):
             with self.subTest(arguments):
                 self.fails(maize(*arguments), 2, part)
@@ -174,21 +197,27 @@ class Routing(Folder):
         with mock.patch.dict(os.environ, {"MAIZESPELL_PROGRAM": "there"}):
             self.assertEqual((program_path(None), program_path("here")), ("there", "here"))
             del os.environ["MAIZESPELL_PROGRAM"]
-            self.assertEqual(program_path(None), str(support.ROOT / "target" / "bin" / "maizespell"))
+            self.assertEqual(route.BUILT, support.ROOT / "target" / "bin" / "maizespell")
+            with mock.patch.object(route, "BUILT", self.file("maizespell", b"")):
+                self.assertEqual(program_path(None), str(self.folder / "maizespell"))
+            with mock.patch.object(route, "BUILT", self.folder / "none" / "maizespell"):
+                self.assertEqual(program_path(None), "maizespell")
 
     def test_refusals_in_words(self):
         bad = self.file("bad", job_bytes("A")[:12])
         done = maize("route", bad, "--program", self.stand_in("refused 2 at 80\\n"))
         self.fails(done, 1, "the program refused the job, 2 at 80: a group of bits is not whole")
         self.assertEqual((self.folder / "given").read_bytes(), job_bytes("A")[:12])
-        self.fails(maize("route", A, "--program", self.stand_in("too large\\n")), 1, "the job is too large for the program")
+        too_large = maize("route", A, "--program", self.stand_in("too large\\n"))
+        self.fails(too_large, 1, "'maize route --host HOST' routes it, with the host that examples/host/build builds")
 
     def test_programs_that_fail(self):
-        self.fails(maize("route", A, "--program", self.folder / "none"), 1, "can't run the program")
+        self.fails(maize("route", A, "--program", self.folder / "none"), 1, "'rt check maizespell' builds it")
         self.fails(maize("route", A, "--program", self.stand_in("", 3)), 1, "ended with status 3")
         self.fails(maize("route", A, "--program", self.stand_in("")), 1, "wrote no line that this tool knows")
         self.fails(maize("route", A, "--program", self.stand_in("hello\\n")), 1, "wrote no line that this tool knows")
-        self.fails(maize("route", A, "--program", self.stand_in(self.line("B"))), 1, "the program's plan breaks: refused 17 at 44")
+        broken = self.stand_in(self.line("B"))
+        self.fails(maize("route", A, "--program", broken), 1, f"the plan of {broken} breaks: refused 17 at 44")
 
 
 class Hosting(Folder):
@@ -209,7 +238,21 @@ class Hosting(Folder):
 
     def test_what_the_host_refuses(self):
         self.fails(maize("route", A, "--host", self.stand_in(b"", 1, "refused 4 at 8")), 1, f"{A}: refused 4 at 8")
-        self.fails(maize("route", A, "--host", self.folder / "none"), 1, "can't run the host")
+        none = self.folder / "none"
+        self.fails(maize("route", A, "--host", none), 1, f"can't run the host {none}: No such file")
+
+    def test_what_is_no_host(self):
+        for host, status in (("true", 0), ("false", 1)):
+            said = f"{A}: no plan: {host} wrote none and ended with status {status}; --host expects the host that"
+            self.fails(maize("route", A, "--host", host), 1, said)
+        said = "cat wrote none and ended with status 1, saying 'cat: "
+        self.fails(maize("route", A, "--host", "cat"), 1, said)
+        broken = self.stand_in(plan_bytes("B"))
+        self.fails(maize("route", A, "--host", broken), 1, f"the plan of {broken} breaks: refused 17 at 44")
+
+    def test_one_line_of_what_the_host_says(self):
+        host = self.stand_in(b"", 2, "first\nsecond")
+        self.fails(maize("route", A, "--host", host), 1, f"{A}: first\n")
 
     def test_the_host_or_the_program(self):
         self.fails(maize("route", A, "--host", "a", "--program", "b"), 2, "not allowed with argument")

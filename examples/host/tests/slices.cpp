@@ -1,6 +1,6 @@
 // Tests the calls on slices against guard pages, of just the need and one short of it, and on null pointers
-// of length 0. The arguments are files of good jobs. Exits with 0 where all is as the header says; a touch of
-// a guard page ends the process.
+// of length 0. The arguments are files of good jobs. Exits with 0 where all is as the header says, and prints
+// how many of the plans are within the host's guess; a touch of a guard page ends the process.
 #include <exception>
 #include <iostream>
 #include <stdexcept>
@@ -169,7 +169,8 @@ void null_plan(const Case &of, End end) {
     }
 }
 
-void test_file(const std::string &path) {
+// Whether the job's plan is within the host's guess.
+bool test_file(const std::string &path) {
     const Bytes job = host::read_file(path);
     const host::Needs needs = host::size(job);
     const Case of{job, needs, host::route(job, needs)};
@@ -179,19 +180,21 @@ void test_file(const std::string &path) {
         null_slices(of, end);
         null_plan(of, end);
     }
+    return of.routed.plan.size() <= host::plan_guess(job, needs);
 }
 
 } // namespace
 
 int main(int count, char **paths) {
+    int guessed = 0;
     for (int number = 1; number < count; ++number) {
         try {
-            test_file(paths[number]);
+            guessed += test_file(paths[number]) ? 1 : 0;
         } catch (const std::exception &error) {
             std::cerr << paths[number] << ": " << error.what() << '\n';
             return 1;
         }
     }
-    std::cout << count - 1 << " jobs with guarded slices\n";
+    std::cout << count - 1 << " jobs with guarded slices, " << guessed << " plans within the guess\n";
     return 0;
 }
