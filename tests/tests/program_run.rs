@@ -89,3 +89,18 @@ fn a_line_that_cannot_be_written_is_told() {
     let told = "maizespell: the line could not be written to standard output\n";
     assert_eq!(String::from_utf8_lossy(&output.stderr), told);
 }
+
+/// The program does not wait for a job: its standard input stays open.
+#[test]
+fn an_argument_is_answered_by_what_is_expected() {
+    let mut command = Command::new(program());
+    command.arg("a.job").stdin(Stdio::piped());
+    command.stdout(Stdio::piped()).stderr(Stdio::piped());
+    let mut child = command.spawn().expect("the program runs");
+    let input = child.stdin.take().expect("a pipe");
+    let output = child.wait_with_output().expect("the program ends");
+    drop(input);
+    let told = "maizespell: takes no arguments, and a job on standard input: maizespell < JOB\n";
+    assert_eq!(String::from_utf8_lossy(&output.stderr), told);
+    assert_eq!(String::from_utf8_lossy(&output.stdout), "");
+}

@@ -1,6 +1,6 @@
 // The program: reads a job from standard input and writes one line. It only reads and writes; all that
 // decides is in `line_of`. One byte more than a job may have is read, so that a longer job is seen to be too
-// long. A line that could not be written is told on standard error; a Rattle program has no exit status.
+// long. It takes no arguments. What went wrong is told on standard error; a Rattle program has no exit status.
 mod line;
 
 use libc::STDERR_FILENO;
@@ -18,6 +18,13 @@ fn write_line() -> bool {
 }
 
 fn main() {
+    if 1 < os::arg_count() {
+        io::write_all(
+            STDERR_FILENO,
+            b"maizespell: takes no arguments, and a job on standard input: maizespell < JOB\n",
+        );
+        return;
+    }
     if !write_line() {
         io::write_all(
             STDERR_FILENO,
