@@ -1,6 +1,7 @@
 //! The twelve marked jobs, A to L, of "Routes by hand", in the document's words.
 
 pub mod by_hand;
+pub mod costs;
 
 use crate::grid::{vertex, Vertex};
 use crate::job::{GuideBox, Job, Layer, Net, CLOSED, EDITION};

@@ -2,6 +2,7 @@
 
 pub mod left;
 pub mod search;
+pub mod to_go;
 
 use std::convert::Infallible;
 

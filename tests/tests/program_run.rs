@@ -1,8 +1,9 @@
-//! The program itself on files of jobs: one line, that of the second program.
+//! The program itself on files of jobs: one line, that of the second program. A Rattle
+//! program has no exit status of its own, so what went wrong is on standard error.
 //!
 //! MAIZESPELL_PROGRAM names it, or it is `../target/bin/maizespell`.
 
-use std::fs::{self, File};
+use std::fs::{self, File, OpenOptions};
 use std::io::Write;
 use std::path::{Path, PathBuf};
 use std::process::{Command, Output, Stdio};
@@ -31,6 +32,7 @@ fn run(file: &Path, bytes: &[u8]) -> Output {
 fn check_output(kind: &str, output: &Output, expected: &str) {
     let written = String::from_utf8_lossy(&output.stdout);
     assert_eq!(written, expected, "{kind}");
+    assert_eq!(String::from_utf8_lossy(&output.stderr), "", "{kind}");
     assert!(output.status.success(), "{kind}: {}", output.status);
 }
 
@@ -57,6 +59,7 @@ fn generated_jobs_get_their_lines() {
 fn a_gets_the_line_of_the_document_through_a_pipe() {
     let mut command = Command::new(program());
     command.stdin(Stdio::piped()).stdout(Stdio::piped());
+    command.stderr(Stdio::piped());
     let mut child = command.spawn().expect("the program runs");
     let mut input = child.stdin.take().expect("a pipe");
     for part in marked::a().pack().chunks(20) {
@@ -67,4 +70,36 @@ fn a_gets_the_line_of_the_document_through_a_pipe() {
     drop(input);
     let output = child.wait_with_output().expect("the program ends");
     check_output("A", &output, "80 00 00 00 03 54 00 00 00 00 0C\n");
+}
+
+/// A device that takes nothing, as a full disk does.
+#[test]
+fn a_line_that_cannot_be_written_is_told() {
+    let file = Path::new(env!("CARGO_TARGET_TMPDIR")).join("full");
+    fs::write(&file, marked::a().pack()).expect("a file of the job");
+    let full = OpenOptions::new().write(true).open("/dev/full");
+    let mut command = Command::new(program());
+    command.stdin(File::open(&file).expect("the file of the job"));
+    command
+        .stdout(full.expect("the device"))
+        .stderr(Stdio::piped());
+    let child = command.spawn().expect("the program runs");
+    let output = child.wait_with_output().expect("the program ends");
+    let told = "maizespell: the line could not be written to standard output\n";
+    assert_eq!(String::from_utf8_lossy(&output.stderr), told);
+}
+
+/// The program does not wait for a job: its standard input stays open.
+#[test]
+fn an_argument_is_answered_by_what_is_expected() {
+    let mut command = Command::new(program());
+    command.arg("a.job").stdin(Stdio::piped());
+    command.stdout(Stdio::piped()).stderr(Stdio::piped());
+    let mut child = command.spawn().expect("the program runs");
+    let input = child.stdin.take().expect("a pipe");
+    let output = child.wait_with_output().expect("the program ends");
+    drop(input);
+    let told = "maizespell: takes no arguments, and a job on standard input: maizespell < JOB\n";
+    assert_eq!(String::from_utf8_lossy(&output.stderr), told);
+    assert_eq!(String::from_utf8_lossy(&output.stdout), "");
 }

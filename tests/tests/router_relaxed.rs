@@ -5,83 +5,15 @@ use std::convert::Infallible;
 
 use maizespell_tests::generate::routable::{routable_job, Size};
 use maizespell_tests::job::Job;
-use maizespell_tests::joining::{join_nets, NetAtHand};
-use maizespell_tests::plan::{Join, Record};
+use maizespell_tests::joining::join_nets;
+use maizespell_tests::plan::Record;
 use maizespell_tests::random::Random;
+use maizespell_tests::router::to_go::CostToGo;
 use maizespell_tests::router::{route, walk};
 use maizespell_tests::rules::board::Board;
-use maizespell_tests::rules::moves::Move;
-use maizespell_tests::rules::segment::Segment;
-use maizespell_tests::rules::step::Place;
 
 const SEED: u64 = 2_718;
 const JOBS: u32 = 400;
-
-/// The least cost from each place to an unjoined pin, by vertex and segment.
-struct CostToGo<'a> {
-    board: &'a Board<'a>,
-    net: &'a NetAtHand<'a>,
-    costs: Vec<Option<u64>>,
-}
-
-impl<'a> CostToGo<'a> {
-    fn relaxed(board: &'a Board<'a>, net: &'a NetAtHand<'a>) -> Self {
-        let costs = vec![None; board.vertices() * board.segments()];
-        let mut to_go = CostToGo { board, net, costs };
-        while to_go.pass() {}
-        to_go
-    }
-
-    /// Relaxes every place once; whether anything has changed.
-    fn pass(&mut self) -> bool {
-        let mut changed = false;
-        for number in 0..self.costs.len() {
-            let from = Place {
-                vertex: number / self.board.segments(),
-                segment: Segment::coded((number % self.board.segments()) as u32),
-            };
-            let least = Move::ALL.iter().filter_map(|by| self.by(from, *by)).min();
-            if least != self.costs[number] {
-                self.costs[number] = least;
-                changed = true;
-            }
-        }
-        changed
-    }
-
-    fn of(&self, place: Place) -> Option<u64> {
-        self.costs[place.vertex * self.board.segments() + place.segment.code() as usize]
-    }
-
-    /// The cost to go by this move.
-    fn by(&self, from: Place, by: Move) -> Option<u64> {
-        let step = self.net.view.step(from, by).ok()?;
-        if self.net.unjoined(step.to.vertex) {
-            return Some(step.cost());
-        }
-        Some(step.cost() + self.of(step.to)?)
-    }
-
-    /// The cheapest from the lowest start, each time by the lowest move.
-    fn first_join(&self) -> Option<Join> {
-        let starts = self.net.tree().iter().copied();
-        let costs = starts.filter_map(|start| Some((self.of(Place::start(start))?, start)));
-        let (cost, start) = costs.min()?;
-        let mut moves = Vec::new();
-        let mut place = Place::start(start);
-        while !self.net.unjoined(place.vertex) {
-            let keeps = |by: &Move| self.by(place, *by) == self.of(place);
-            let by = Move::ALL.into_iter().find(keeps)?;
-            place = self.net.view.step(place, by).ok()?.to;
-            moves.push(by);
-        }
-        Some(Join {
-            start: self.board.job.grid().numbered(start as u32),
-            moves,
-            cost,
-        })
-    }
-}
 
 /// The moves of the longest join.
 fn check_job(job: &Job) -> usize {
