@@ -26,7 +26,8 @@ use lib.Seq.{take-add, take-append-le, drop-append-le, drop-drop, length-take-le
 use lib.Arith.{digits-lt}
 use lib.Pow.{shl-exact, shl-lt, pow-pos, pow-add, pow-lt, pow-mono, shr-lt, shl-shr, mod-pow-add}
 use borrow.Author.Tests.{le-leb, lt-leb}
-use Rattle.bits.specs.Bits.{fieldBits, number, bitsOf, field, whole, putInByte, putBit, putBits}
+use Rattle.bits.specs.Bits.{fieldBits, number, bitsOf, field, whole}
+use Rattle.bits.specs.Puts.{putInByte, putBit, putBits}
 use Rattle.bits.proofs.Laws.{length-fieldBits, drop-fieldBits, take-fieldBits, fieldBits-split, number-fieldBits, number-append, length-bitsOf, bitsOf-bits, byte-at, field-below, putBits-append}
 
 -- enough bytes are there where enough bits are

@@ -2,7 +2,8 @@
 // field's width; a field is read or appended a byte at a time.
 ghost use mathlib.Core.Path.{_≡_};
 ghost use Prim.Native.Nat.{_+_, _-_, _^_, _<_};
-ghost use Rattle.bits.specs.Bits.{bitsOf, fieldBits, field, whole, putBits};
+ghost use Rattle.bits.specs.Bits.{bitsOf, fieldBits, field, whole};
+ghost use Rattle.bits.specs.Puts.{putBits};
 ghost use Rattle.bits.specs.Cursors.{Fitting, Room, fieldRead};
 
 pub mod part;

@@ -1,7 +1,8 @@
 // The part of a field that lies in one byte.
 ghost use mathlib.Core.Path.{_≡_};
 ghost use Prim.Native.Nat.{_+_, _-_, _*_, _^_, _/_, _%_, _<_, _≤_, min};
-ghost use Rattle.bits.specs.Bits.{fieldBits, field, putBits};
+ghost use Rattle.bits.specs.Bits.{fieldBits, field};
+ghost use Rattle.bits.specs.Puts.{putBits};
 
 pub fn least(a: usize, b: usize) -> usize
     ensures { λ r. ⌜ r ≡ min a b ⌝ }

@@ -3,9 +3,11 @@
 --     Grids, Sizes      the grid, and its numbers that fit
 --     Fields            a group field by field
 --     Tests, Binds      tests as facts, readings taken apart
+--     Numbered          a refusal has a number
 pub mod TwoWay
 pub mod Grids
 pub mod Sizes
 pub mod Fields
 pub mod Tests
 pub mod Binds
+pub mod Numbered

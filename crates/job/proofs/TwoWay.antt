@@ -20,10 +20,12 @@ use mathlib.Core.Logic.{_↔_}
 use mathlib.Core.List.{List, [], _∷_, _++_, append-assoc, flatMap}
 use lib.ListN.{length, take, drop, replicate}
 use lib.Seq.{take-append-seam}
-use Rattle.bits.specs.Bits.{bitsOf, AllBelow}
+use Rattle.bits.specs.Bits.{bitsOf}
+use Rattle.bits.specs.Puts.{AllBelow}
 use Rattle.bits.proofs.Laws.{bitsOf-bits}
 use Rattle.job.specs.Job.{Net, Job}
-use Rattle.job.specs.Reading.{good, jobHead, obstaclesAt, netsAt, netsWidth, readJob}
+use Rattle.job.specs.Reading.{good, obstaclesAt, netsAt, netsWidth, readJob}
+use Rattle.job.specs.Heads.{jobHead}
 use Rattle.job.specs.Packing.{netBits, jobBits, packJob}
 use Rattle.job.specs.Good.{GoodJob}
 use Rattle.job.proofs.Tests.{tests}

@@ -5,3 +5,5 @@ pub mod Reading
 pub mod Packing
 pub mod Good
 pub mod Structs
+pub mod Heads
+pub mod Slices

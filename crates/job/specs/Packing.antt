@@ -2,14 +2,9 @@
 use Prim.Native.Nat.{ℕ, _-_}
 use mathlib.Core.List.{List, [], _∷_, _++_, flatMap}
 use lib.ListN.{length}
-use Rattle.bits.specs.Bits.{fieldBits, packBits}
+use Rattle.bits.specs.Bits.{fieldBits, groupBits, packBits}
 use Rattle.job.specs.Grid.{Vertex}
 use Rattle.job.specs.Job.{Layer, Obstacle, Box, Net, Job}
-
--- fields one after the other, each a width and a number
-unfoldable pub groupBits : List (ℕ × ℕ) → List ℕ
-groupBits [] = []
-groupBits (f ∷ fs) = fieldBits (f .0) (f .1) ++ groupBits fs
 
 unfoldable pub headBits : Job → List ℕ
 headBits j =

@@ -52,17 +52,6 @@ pub record Head : Type 0 where
   pub nets : ℕ
   pub obstacles : ℕ
 
--- the head of a job
-abbrev pub jobHead : Job → Head
-jobHead j =
-    record {
-      grid = j .grid;
-      guide = j .guide;
-      short = j .short;
-      nets = length (j .nets);
-      obstacles = length (j .obstacles);
-    }
-
 -- "Head, 80 bits: edition 4 (is 1); direction 1; layers minus one 3; columns minus one 8; rows minus one 8;
 -- guide penalty 16; short penalty 16; nets 8; obstacles 16."
 unfoldable pub headAt : (bits : List ℕ) (at : ℕ) → Head

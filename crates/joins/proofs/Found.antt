@@ -12,8 +12,10 @@ use lib.ListN.{getD}
 use lib.Dec.{eqb}
 use Rattle.job.specs.Grid.{vertices}
 use Rattle.paths.specs.Systems.{System}
-use Rattle.paths.specs.Distances.{Cost, fin, inf, Table, lowestKeeping, keeps, follow}
-use Rattle.paths.specs.Starts.{Choice, none, first, startCost, Chooses}
+use Rattle.paths.specs.Distances.{Cost, fin, inf, lowestKeeping, keeps, follow}
+use Rattle.paths.specs.Tables.{Table}
+use Rattle.paths.specs.Starts.{Choice, none, first, startCost}
+use Rattle.paths.specs.Foremost.{Chooses}
 use Rattle.paths.specs.Forward.{Forward}
 use Rattle.paths.proofs.Following.{follow-none, follow-goal, follow-inf, follow-step}
 use Rattle.paths.proofs.Starts.{best-chooses, best-same}
@@ -24,7 +26,7 @@ use Rattle.rules.specs.Prices.{Tech}
 use Rattle.rules.specs.Walks.{system, startAt}
 use Rattle.rules.specs.Joins.{Record, places, starts, joinFrom, joinBy, joinOf}
 use Rattle.rules.specs.Places.{GoodPlace, GoodTech}
-use Rattle.rules.specs.Standings.{Apart}
+use Rattle.rules.specs.Apart.{Apart}
 use Rattle.rules.proofs.Places.{start-good}
 use Rattle.rules.proofs.Certificates.{join-by-table}
 use Rattle.tree.specs.Spots.{Spots}

@@ -8,16 +8,16 @@ use mathlib.Core.Path.{_≡_, refl, sym, ap, subst, _∙_}
 use mathlib.Core.List.{List, [], _∷_, _++_, flatMap}
 use native.Mathlib.Omega.{arith}
 use lib.ListN.{length}
-use Rattle.bits.specs.Bits.{fieldBits, putBits}
+use Rattle.bits.specs.Bits.{fieldBits, groupBits}
+use Rattle.bits.specs.Puts.{putBits}
 use Rattle.bits.proofs.Laws.{length-fieldBits, putBits-append}
 use Rattle.job.specs.Grid.{Grid, vertices}
-use Rattle.job.specs.Packing.{groupBits}
 use Rattle.job.proofs.TwoWay.Places.{widths, length-groupBits}
 use Rattle.job.proofs.TwoWay.Widths.{concat-bits}
 use Rattle.rules.specs.Tracks.{layerOf, rowOf, columnOf}
 use Rattle.rules.specs.Views.{View}
 use Rattle.rules.specs.Prices.{Tech}
-use Rattle.rules.specs.Standings.{Apart}
+use Rattle.rules.specs.Apart.{Apart}
 use Rattle.rules.specs.Joins.{Record, join, none, joinOf}
 use Rattle.rules.specs.Places.{GoodTech}
 use Rattle.plan.specs.Layout.{recordBits}

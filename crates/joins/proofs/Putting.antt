@@ -6,10 +6,10 @@ use Prim.Native.Nat.{ℕ, _+_}
 use mathlib.Core.Path.{_≡_, refl, sym, ap, _∙_}
 use mathlib.Core.List.{List, [], _∷_}
 use lib.ListN.{length}
-use Rattle.bits.specs.Bits.{fieldBits, putBits}
+use Rattle.bits.specs.Bits.{fieldBits, groupBits}
+use Rattle.bits.specs.Puts.{putBits}
 use Rattle.bits.proofs.Laws.{length-fieldBits, putBits-append}
 use Rattle.job.specs.Grid.{Grid}
-use Rattle.job.specs.Packing.{groupBits}
 use Rattle.job.specs.Structs.{vertexStruct}
 use Rattle.job.specs.declared.grid.Vertex.{Vertex as VertexStruct}
 use Rattle.rules.specs.Tracks.{layerOf, rowOf, columnOf, vertexBy}

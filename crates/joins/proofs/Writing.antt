@@ -13,7 +13,8 @@ use mathlib.Core.List.{List, [], _∷_, _++_, flatMap}
 use mathlib.Core.Bool.{Bool, true, false}
 use native.Mathlib.Omega.{arith}
 use lib.ListN.{length, set}
-use Rattle.bits.specs.Bits.{fieldBits, putBits}
+use Rattle.bits.specs.Bits.{fieldBits}
+use Rattle.bits.specs.Puts.{putBits}
 use Rattle.bits.proofs.Laws.{length-fieldBits, length-putBits, putBits-append}
 use Rattle.job.specs.Structs.{gridOf}
 use Rattle.paths.specs.Systems.{blocked, to, System}

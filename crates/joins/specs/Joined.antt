@@ -6,7 +6,7 @@ use Prim.Native.Nat.{ℕ, _+_, _*_, _^_, _≤_}
 use mathlib.Core.Path.{_≡_}
 use mathlib.Core.List.{List}
 use lib.ListN.{length}
-use Rattle.bits.specs.Bits.{putBits}
+use Rattle.bits.specs.Puts.{putBits}
 use Rattle.rules.specs.Views.{View}
 use Rattle.rules.specs.Prices.{Tech}
 use Rattle.rules.specs.Joins.{Record, join, none}

@@ -2,8 +2,8 @@
 ghost use mathlib.Core.Path.{_≡_};
 ghost use mathlib.Core.List.{[], _∷_};
 ghost use Prim.Native.Nat.{_<_, _^_};
-ghost use Rattle.bits.specs.Bits.{fieldBits, putBits};
-ghost use Rattle.job.specs.Packing.{groupBits};
+ghost use Rattle.bits.specs.Bits.{fieldBits, groupBits};
+ghost use Rattle.bits.specs.Puts.{putBits};
 ghost use Rattle.job.specs.Structs.{gridOf};
 ghost use Rattle.rules.specs.Tracks.{layerOf, rowOf, columnOf};
 ghost use Rattle.rules.specs.Structs.{OnGrid};

@@ -16,7 +16,8 @@ use native.Mathlib.Decide.{decLt}
 use native.Mathlib.Omega.{arith}
 use lib.ListN.{length, getD, length-append, List·getD-append}
 use borrow.Author.Tests.{lt-ltb, le-ltb}
-use Rattle.lines.specs.Lines.{decimal, decimalBy, valueFrom, refusedLine}
+use Rattle.lines.specs.Lines.{decimal, decimalBy, refusedLine}
+use Rattle.lines.specs.Values.{valueFrom}
 
 -- below ten, any fuel gives the one digit
 enough-small : (f n : ℕ) → n < 10 → decimalBy f n ≡ (48 + n) ∷ []

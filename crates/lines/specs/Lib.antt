@@ -1,2 +1,4 @@
 pub mod Lines
 pub mod Put
+pub mod Values
+pub mod Puts

@@ -46,11 +46,6 @@ decimalBy (suc fuel) n = cond (ltb n 10) ((48 + n) ∷ []) (decimalBy fuel (n / 
 unfoldable pub decimal : ℕ → List ℕ
 decimal n = decimalBy n n
 
--- the number that decimal digits write, after digits that write v
-unfoldable pub valueFrom : (v : ℕ) → List ℕ → ℕ
-valueFrom v [] = v
-valueFrom v (c ∷ cs) = valueFrom (v * 10 + (c - 48)) cs
-
 -- ---- the lines in words
 
 -- `refused `

@@ -5,7 +5,7 @@ ghost use mathlib.Core.List.{[]};
 ghost use lib.ListN.{length, take, drop};
 ghost use lib.Seq.{sets};
 ghost use Rattle.lines.specs.Lines.{digit, hexByte, hexMore};
-ghost use Rattle.lines.specs.Put.{PutAt};
+ghost use Rattle.lines.specs.Puts.{PutAt};
 
 // The code of a digit below 16.
 pub fn code(value: u8) -> u8

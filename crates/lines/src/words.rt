@@ -3,7 +3,7 @@ ghost use Prim.Native.Nat.{_+_, _≤_};
 ghost use mathlib.Core.Path.{_≡_};
 ghost use lib.ListN.{length};
 ghost use Rattle.lines.specs.Lines.{decimal};
-ghost use Rattle.lines.specs.Put.{PutAt};
+ghost use Rattle.lines.specs.Puts.{PutAt};
 
 // Puts text, and answers the index past it.
 pub fn put_text(line: &mut [u8], at: usize, text: &[u8]) -> usize

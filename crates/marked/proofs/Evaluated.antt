@@ -4,14 +4,13 @@
 --     plan-of-A          the plan of the first row
 use mathlib.Core.Path.{_≡_, refl}
 use mathlib.Core.List.{List, [], _∷_, flatMap}
-use Rattle.bits.specs.Bits.{fieldBits, number, bitsOf, packTo, packBits, field, whole}
+use Rattle.bits.specs.Bits.{fieldBits, number, bitsOf, packTo, packBits, field, whole, groupBits}
 use Rattle.job.specs.Lists.{any, all, All}
 use Rattle.job.specs.Grid.{vertices, vertexNumber, inside, same, stepsColumn, nextHigh, runHigh, strideOf}
 use Rattle.job.specs.Job.{largestMinLength}
 use Rattle.job.specs.Reading.{good, _>>=_, _>>_, rule, readMany, headAt, readHead, layerAt, viaRule, readLayer, vertexAt, covered, onObstacle, readPin, readPins}
 use Rattle.job.specs.Reading.{boxAt, goodSpan, goodBox, readBox, readNetHead, readNet, netWidth, readNets, netsWidth, readTail, obstaclesAt, netsAt}
 use Rattle.job.specs.Reading.{readAfterHead, readBits, readJob}
-use Rattle.job.specs.Packing.{groupBits}
 use Rattle.paths.specs.Distances.{isCost, onward, keeps, lowestFrom, lowestKeeping, moveOn, follow}
 use Rattle.paths.specs.Starts.{orNext, best, startCost}
 use Rattle.rules.specs.Tracks.{layerOf, rowOf, columnOf, trackIndex, trackLength, ifThere, entered}

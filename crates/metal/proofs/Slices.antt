@@ -13,7 +13,8 @@ use mathlib.Core.List.{List, _∷_, _++_}
 use native.Mathlib.Omega.{arith}
 use lib.ListN.{length, getD, set, take, drop, replicate, length-append, take-append-drop, length-drop, length-set, length-replicate, getD-replicate, List·getD-append}
 use lib.Seq.{length-take-le, drop-cons, set-at, drop-at, drop-set-lt, getD-take, getD-drop, ext-getD}
-use Rattle.metal.specs.Codes.{Beyond, Bare, zeroed}
+use Rattle.metal.specs.Codes.{Beyond, Bare}
+use Rattle.job.specs.Slices.{zeroed}
 
 -- ---- past its need
 

@@ -19,7 +19,8 @@ use Rattle.rules.specs.Overheads.{toward}
 use Rattle.rules.specs.Structs.{nextOn}
 use Rattle.rules.proofs.Rooms.{roomToward, nextToward, Onward, onward, room-enters, room-ends}
 use Rattle.rules.proofs.Standing.{all-at}
-use Rattle.metal.specs.Codes.{laidCode, layAll, fromEntered, beyond, zeroed, withObstacles}
+use Rattle.metal.specs.Codes.{laidCode, layAll, fromEntered, beyond, withObstacles}
+use Rattle.job.specs.Slices.{zeroed}
 use Rattle.metal.proofs.Slices.{zeroed-more}
 
 -- ---- making entries zero

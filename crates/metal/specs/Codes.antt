@@ -4,7 +4,7 @@
 --     beyond, extended     the vertices beyond one, along its track, and those of an extension
 --     Codes                each vertex's code is that of the metal on it
 --     Beyond               past its need a slice is as found
---     Bare, zeroed         its need is zero
+--     Bare                 its need is zero
 --     withObstacles        obstacles put in
 use Prim.Native.Nat.{ℕ, zero, suc, _<_}
 use mathlib.Core.Path.{_≡_}
@@ -55,10 +55,6 @@ pub record Beyond (n : ℕ) (held found : List ℕ) : Type 0 where
 -- the first n are zero
 unfoldable pub Bare : (n : ℕ) → List ℕ → Type 0
 Bare n codes = (v : ℕ) → v < n → getD codes v 0 ≡ 0
-
--- with the first n made zero
-unfoldable pub zeroed : (n : ℕ) → List ℕ → List ℕ
-zeroed n xs = replicate n 0 ++ drop n xs
 
 -- 257 put in where the occupant is an obstacle, in the first n
 unfoldable pub withObstacles : (occupants : List ℕ) → (n : ℕ) → (codes : List ℕ) → List ℕ

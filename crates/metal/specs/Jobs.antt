@@ -4,7 +4,8 @@ use mathlib.Core.Path.{_≡_}
 use mathlib.Core.List.{List}
 use lib.ListN.{length}
 use Rattle.job.specs.Job.{Job}
-use Rattle.job.specs.Reading.{good, jobHead, netsAt, readJob}
+use Rattle.job.specs.Reading.{good, netsAt, readJob}
+use Rattle.job.specs.Heads.{jobHead}
 use Rattle.job.specs.Structs.{gridOf}
 use Rattle.job.specs.declared.grid.Grid.{Grid as GridStruct}
 

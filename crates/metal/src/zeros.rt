@@ -2,7 +2,7 @@
 ghost use mathlib.Core.Path.{_≡_};
 ghost use Prim.Native.Nat.{_≤_};
 ghost use lib.ListN.{length};
-ghost use Rattle.metal.specs.Codes.{zeroed};
+ghost use Rattle.job.specs.Slices.{zeroed};
 
 pub fn zero_codes(map: &mut [u16], count: usize)
     requires { ⌜ count ≤ length (now map) ⌝ }

@@ -6,9 +6,11 @@ use Prim.Native.Nat.{ℕ, _<_}
 use native.Mathlib.Omega.{arith}
 use mathlib.Core.Path.{_≡_, refl, sym, _∙_}
 use mathlib.Core.Bool.{Bool, true, false}
-use Rattle.paths.specs.Systems.{System, Lawful}
-use Rattle.paths.specs.Distances.{Cost, fin, inf, within, Table}
-use Rattle.paths.specs.Starts.{none, first, best, Chosen, Starts, GoodStarts, startCost}
+use Rattle.paths.specs.Systems.{System}
+use Rattle.paths.specs.Tables.{Lawful, within, Table}
+use Rattle.paths.specs.Distances.{Cost, fin, inf}
+use Rattle.paths.specs.Starts.{none, first, best, Starts, startCost}
+use Rattle.paths.specs.Foremost.{Chosen, GoodStarts}
 use Rattle.paths.specs.Forward.{LowerBound, Forward}
 use Rattle.paths.specs.Leads.{OnBest}
 use Rattle.paths.proofs.Costs.{within-only, within-inf}

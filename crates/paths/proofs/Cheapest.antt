@@ -42,9 +42,10 @@
 use Prim.Native.Nat.{ℕ}
 use mathlib.Core.Path.{_≡_}
 use mathlib.Core.List.{List}
-use Rattle.paths.specs.Systems.{System, Lawful}
+use Rattle.paths.specs.Systems.{System}
+use Rattle.paths.specs.Tables.{Lawful, within, Table}
 use Rattle.paths.specs.Rivals.{Rival}
-use Rattle.paths.specs.Distances.{Cost, fin, inf, within, dist, Table, follow}
+use Rattle.paths.specs.Distances.{Cost, fin, inf, dist, follow}
 pub use Rattle.paths.proofs.Routes.{route-rival, route-cost}
 pub use Rattle.paths.proofs.Reach.{dist-bounds, dist-reached}
 pub use Rattle.paths.proofs.Loops.{shorter}

@@ -12,9 +12,10 @@ use mathlib.Core.List.{List, _∷_}
 use mathlib.Core.Bool.{Bool, true, false}
 use lib.ListN.{length, length-take}
 use lib.Seq.{take-all}
-use Rattle.paths.specs.Systems.{System, Legal, Lawful}
+use Rattle.paths.specs.Systems.{System, Legal}
+use Rattle.paths.specs.Tables.{Lawful, Table}
 use Rattle.paths.specs.Rivals.{Route, Before, ends, lower, later}
-use Rattle.paths.specs.Distances.{Cost, fin, inf, Table, lowestKeeping, follow}
+use Rattle.paths.specs.Distances.{Cost, fin, inf, lowestKeeping, follow}
 use Rattle.paths.proofs.Costs.{within-fin}
 use Rattle.paths.proofs.Routes.{route-rival, Rest, done, more, rest-more}
 use Rattle.paths.proofs.Loops.{cheapest-short}

@@ -10,9 +10,11 @@ use native.Mathlib.Omega.{arith}
 use mathlib.Core.Path.{_≡_, refl, sym, ap, _∙_}
 use mathlib.Core.List.{[], _∷_}
 use mathlib.Core.Bool.{Bool, true, false}
-use Rattle.paths.specs.Systems.{to, System, Legal, Lawful}
-use Rattle.paths.specs.Distances.{Cost, fin, Table, keeps, lowestKeeping, follow, onward}
-use Rattle.paths.specs.Starts.{Starts, GoodStarts}
+use Rattle.paths.specs.Systems.{to, System, Legal}
+use Rattle.paths.specs.Tables.{Lawful, Table}
+use Rattle.paths.specs.Distances.{Cost, fin, keeps, lowestKeeping, follow, onward}
+use Rattle.paths.specs.Starts.{Starts}
+use Rattle.paths.specs.Foremost.{GoodStarts}
 use Rattle.paths.specs.Forward.{LowerBound, Forward}
 use Rattle.paths.specs.Leads.{OnBest, onBest, Leads, ends, goesOn, Leading, isLead, lowestLead, leadOn, followLeads}
 use Rattle.paths.proofs.Lowest.{lowest-same}

@@ -12,10 +12,12 @@ use mathlib.Core.Path.{_≡_, refl, sym}
 use mathlib.Core.Logic.{_⊎_, inl, inr}
 use mathlib.Core.List.{List}
 use mathlib.Core.Bool.{Bool, true, false}
-use Rattle.paths.specs.Systems.{System, Lawful}
+use Rattle.paths.specs.Systems.{System}
+use Rattle.paths.specs.Tables.{Lawful, within}
 use Rattle.paths.specs.Rivals.{Rival, Route}
-use Rattle.paths.specs.Distances.{Cost, fin, inf, within}
-use Rattle.paths.specs.Starts.{Starts, GoodStarts, Joins}
+use Rattle.paths.specs.Distances.{Cost, fin, inf}
+use Rattle.paths.specs.Starts.{Starts}
+use Rattle.paths.specs.Foremost.{GoodStarts, Joins}
 use Rattle.paths.specs.Forward.{From, LowerBound, Enters, Forward}
 use Rattle.paths.proofs.Costs.{within-trans, within-fin}
 

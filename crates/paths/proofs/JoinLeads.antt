@@ -6,9 +6,11 @@ use Prim.Native.Nat.{ℕ, _≤_, _<_}
 use native.Mathlib.Omega.{arith}
 use mathlib.Core.Path.{_≡_, refl, sym, ap, subst}
 use mathlib.Core.Bool.{Bool, true, false, true≢false}
-use Rattle.paths.specs.Systems.{System, Lawful}
-use Rattle.paths.specs.Distances.{Cost, fin, Table}
-use Rattle.paths.specs.Starts.{first, best, Starts, GoodStarts, startCost, Foremost, joinFrom}
+use Rattle.paths.specs.Systems.{System}
+use Rattle.paths.specs.Tables.{Lawful, Table}
+use Rattle.paths.specs.Distances.{Cost, fin}
+use Rattle.paths.specs.Starts.{first, best, Starts, startCost}
+use Rattle.paths.specs.Foremost.{GoodStarts, Foremost, joinFrom}
 use Rattle.paths.specs.Forward.{LowerBound, Forward}
 use Rattle.paths.specs.Leads.{OnBest, Leading, isLed, ledStart, joinLeads}
 use Rattle.paths.proofs.Lowest.{lowest-passes}

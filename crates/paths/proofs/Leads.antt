@@ -9,9 +9,11 @@ use native.Mathlib.Omega.{arith}
 use mathlib.Core.Path.{_≡_, refl, sym}
 use mathlib.Core.Bool.{Bool, true, false, true≢false}
 use borrow.Author.Tests.{eqb-true, eq-eqb}
-use Rattle.paths.specs.Systems.{Step, blocked, to, System, Legal, Lawful}
-use Rattle.paths.specs.Distances.{Cost, fin, Table}
-use Rattle.paths.specs.Starts.{Starts, GoodStarts}
+use Rattle.paths.specs.Systems.{Step, blocked, to, System, Legal}
+use Rattle.paths.specs.Tables.{Lawful, Table}
+use Rattle.paths.specs.Distances.{Cost, fin}
+use Rattle.paths.specs.Starts.{Starts}
+use Rattle.paths.specs.Foremost.{GoodStarts}
 use Rattle.paths.specs.Forward.{LowerBound, Forward}
 use Rattle.paths.specs.Leads.{OnBest, onBest, Leads, ends, goesOn, Leading, isLead}
 use Rattle.paths.proofs.Following.{is-cost, cost-is}

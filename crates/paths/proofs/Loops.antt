@@ -12,7 +12,8 @@ use mathlib.Core.Path.{_≡_, refl, sym, ap, _∙_}
 use mathlib.Core.List.{List, [], _∷_}
 use mathlib.Core.Bool.{Bool, true, false, true≢false}
 use lib.ListN.{length}
-use Rattle.paths.specs.Systems.{System, Legal, Lawful}
+use Rattle.paths.specs.Systems.{System, Legal}
+use Rattle.paths.specs.Tables.{Lawful}
 use Rattle.paths.specs.Rivals.{Rival, Route}
 use Rattle.paths.proofs.Counts.{count, below, count-none, count-other, count-more, Once, once-none, once-more, below-none, below-more, once-below}
 

@@ -9,10 +9,12 @@ use native.Mathlib.Omega.{arith}
 use mathlib.Core.Path.{_≡_, refl, ap, _∙_}
 use mathlib.Core.Bool.{Bool, true, false}
 use mathlib.Core.List.{List}
-use Rattle.paths.specs.Systems.{System, Legal, Lawful}
+use Rattle.paths.specs.Systems.{System, Legal}
+use Rattle.paths.specs.Tables.{Lawful, within, Table}
 use Rattle.paths.specs.Rivals.{Route}
-use Rattle.paths.specs.Distances.{Cost, fin, within, through, Table, keeps, lowestKeeping}
-use Rattle.paths.specs.Starts.{Starts, GoodStarts}
+use Rattle.paths.specs.Distances.{Cost, fin, through, keeps, lowestKeeping}
+use Rattle.paths.specs.Starts.{Starts}
+use Rattle.paths.specs.Foremost.{GoodStarts}
 use Rattle.paths.specs.Forward.{From, LowerBound, Forward}
 use Rattle.paths.specs.Leads.{OnBest, onBest, Leads, ends, goesOn}
 use Rattle.paths.proofs.Costs.{within-fin, through-fin}

@@ -10,7 +10,8 @@ use mathlib.Core.Path.{_≡_, sym, _∙_}
 use mathlib.Core.List.{List, [], _∷_}
 use mathlib.Core.Bool.{true, false, true≢false}
 use lib.ListN.{length}
-use Rattle.paths.specs.Systems.{System, Legal, Lawful}
+use Rattle.paths.specs.Systems.{System, Legal}
+use Rattle.paths.specs.Tables.{Lawful}
 use Rattle.paths.specs.Rivals.{Rival, Route}
 
 -- a route is a rival

@@ -1,15 +1,12 @@
 -- The least cost to a goal, and the route that has it.
---     Cost, plus, least, within      a cost, or none
+--     Cost, plus, least              a cost, or none
 --     leastOf                        the least of the first n costs
 --     dist                           the least cost in at most so many moves (0 at a goal)
---     Table                          a table of costs that no move lowers and whose every finite entry a move
---                                    supports
 --     lowestKeeping                  the lowest move that keeps the table's cost
 --     follow                         the route that takes it at each place
--- `dist` is never to be evaluated: its cost explodes. A concrete table is shown to be a `Table`, and so to be
--- `dist`.
-use Prim.Native.Nat.{ℕ, zero, suc, _+_, _≤_, _<_, min}
-use mathlib.Core.Path.{_≡_}
+-- `dist` is never to be evaluated: its cost explodes. A concrete table is shown to be a `Table` (Tables), and so
+-- to be `dist`.
+use Prim.Native.Nat.{ℕ, zero, suc, _+_, min}
 use mathlib.Core.List.{List, [], _∷_}
 use mathlib.Core.Bool.{Bool, true, false, cond}
 use lib.Dec.{eqb}
@@ -27,13 +24,6 @@ unfoldable pub least : Cost → Cost → Cost
 least (fin m) (fin n) = fin (min m n)
 least (fin m) inf = fin m
 least inf c = c
-
--- no dearer than
-abbrev pub within : Cost → Cost → Type 0
-within (fin m) (fin n) = m ≤ n
-within (fin m) inf = Unit
-within inf (fin n) = ⊥
-within inf inf = Unit
 
 -- the least of the first n costs
 unfoldable pub leastOf : (ℕ → Cost) → (n : ℕ) → Cost
@@ -65,14 +55,6 @@ module _ (S : System) where
   unfoldable pub dist : ℕ → S .Place → Cost
   dist zero s = cond (S .goal s) (fin 0) inf
   dist (suc k) s = cond (S .goal s) (fin 0) (leastOf (λ m. through (dist k) (S .step s m)) (S .moves))
-
-  -- what a relaxation leaves when a whole pass changes nothing: 0 at goals, no move lowers an entry, and a
-  -- move supports each finite entry
-  pub record Table (Good : S .Place → Type 0) (D : S .Place → Cost) : Type 0 where
-    pub goals : {s : S .Place} → Good s → S .goal s ≡ true → D s ≡ fin 0
-    pub settled : {s : S .Place} {m : ℕ} → Good s → S .goal s ≡ false → m < S .moves → within (D s) (through D (S .step s m))
-    pub supported : {s : S .Place} {n : ℕ} → Good s → S .goal s ≡ false → D s ≡ fin n
-        → (m : ℕ) × (m < S .moves) × within (through D (S .step s m)) (fin n)
 
   -- whether a move, and then what it leads to, has just the cost c
   unfoldable pub keeps : (S .Place → Cost) → S .Place → (c m : ℕ) → Bool

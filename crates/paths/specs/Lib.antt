@@ -4,3 +4,5 @@ pub mod Distances
 pub mod Starts
 pub mod Forward
 pub mod Leads
+pub mod Tables
+pub mod Foremost

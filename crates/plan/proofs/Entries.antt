@@ -1,4 +1,5 @@
 -- The entries of a net, one by one: their bits, and what stands after a legal join.
+--     all-both                       a claim about two lists is one about each
 --     entries-append                 the bits of two lists of entries
 --     record-placed, length-record   a join's bits and those behind them: where they stand, and how many
 --     legal-apart, legal-fewer       after a legal join the tree and the unjoined pins are apart, and fewer
@@ -9,23 +10,31 @@ use mathlib.Core.Path.{_≡_, refl, sym, subst}
 use mathlib.Core.Logic.{_↔_, Iff·rfl}
 use mathlib.Core.List.{List, [], _∷_, _++_, append-assoc, flatMap}
 use lib.ListN.{length, length-append}
-use Rattle.bits.specs.Bits.{fieldBits}
+use Rattle.bits.specs.Bits.{fieldBits, groupBits}
 use Rattle.bits.proofs.Laws.{length-fieldBits}
+use Rattle.job.specs.Lists.{All}
 use Rattle.job.specs.Grid.{Grid}
 use Rattle.job.specs.Job.{Job}
 use Rattle.job.specs.Good.{GoodJob}
-use Rattle.job.specs.Packing.{groupBits}
 use Rattle.job.proofs.TwoWay.Places.{Placed, placed-append}
 use Rattle.rules.specs.Prices.{techOf}
-use Rattle.rules.specs.Standings.{Standing, joinedBy, Stands}
+use Rattle.rules.specs.Standings.{Standing, joinedBy}
+use Rattle.rules.specs.Apart.{Stands}
 use Rattle.rules.specs.Joins.{join}
 use Rattle.rules.specs.Routings.{Entry}
 use Rattle.rules.proofs.Techs.{good-tech}
 use Rattle.rules.proofs.Standing.{joined-apart}
-use Rattle.plan.specs.Layout.{recordBits, entryBits}
+use Rattle.plan.specs.Layout.{recordBits}
+use Rattle.plan.specs.Entries.{entryBits}
 use Rattle.plan.specs.Legal.{LegalJoin}
 use Rattle.plan.proofs.Unjoined.{without-shorter}
 use Rattle.plan.proofs.JoinRead.{joinFields, joinBits, legal-walk}
+
+-- a claim about two lists is one about each
+pub all-both : {A : Type 0} (P : A → Type 0) (xs ys : List A) → All P (xs ++ ys) → All P xs × All P ys
+unfolding All
+all-both P [] ys h = (tt, h)
+all-both P (x ∷ xs) ys h = let (left, right) = all-both P xs ys (h .1) in ((h .0, left), right)
 
 -- ---- bits
 

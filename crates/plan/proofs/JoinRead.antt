@@ -12,13 +12,13 @@ use mathlib.Core.List.{List, [], _∷_, _++_, flatMap}
 use mathlib.Core.Bool.{Bool, true, false}
 use lib.ListN.{length, length-append}
 use lib.Dec.{T, lit<}
-use Rattle.bits.specs.Bits.{field, whole, fieldBits, AllBelow}
+use Rattle.bits.specs.Bits.{field, whole, fieldBits, groupBits}
+use Rattle.bits.specs.Puts.{AllBelow}
 use Rattle.bits.proofs.Laws.{length-fieldBits}
 use Rattle.job.specs.Grid.{Grid, vertices, vertexNumber}
 use Rattle.job.specs.Job.{Job}
 use Rattle.job.specs.Good.{GoodJob}
 use Rattle.job.specs.Reading.{good, vertexAt}
-use Rattle.job.specs.Packing.{groupBits}
 use Rattle.job.proofs.Tests.{tests}
 use Rattle.job.proofs.Binds.{steps}
 use Rattle.job.proofs.Grids.{below, below-inside}
@@ -29,7 +29,8 @@ use Rattle.rules.specs.Tracks.{layerOf, rowOf, columnOf, vertexBy}
 use Rattle.rules.specs.Views.{member, viewOf}
 use Rattle.rules.specs.Prices.{techOf}
 use Rattle.rules.specs.Walks.{walked, startAt, walkCost}
-use Rattle.rules.specs.Standings.{Standing, joinedBy, Stands}
+use Rattle.rules.specs.Standings.{Standing, joinedBy}
+use Rattle.rules.specs.Apart.{Stands}
 use Rattle.rules.proofs.Vertices.{number-vertex, vertex-number, vertex-below}
 use Rattle.rules.proofs.Techs.{good-tech}
 use Rattle.rules.proofs.Walks.{route-walk}

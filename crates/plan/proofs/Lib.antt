@@ -7,8 +7,11 @@
 --     NetsRead    reading the records of all nets
 --     Unjoined    how many pins are unjoined
 --     Records     every record that routing writes is cheapest
---     Routed      the plan that routing makes of a good job is legal, read as what routing gives, and
---                 cheapest
+--     Routed      the plan that routing makes of a good job is legal, read as what routing gives, cheapest,
+--                 and holds the joins that the ties name
+--     Ties        a plan of the joins that the ties name is routing's
+--     Numbered    a refusal of a plan has a number
+--     Sizes       a plan has at most so many bytes
 pub mod TwoWay
 pub mod Moves
 pub mod JoinRead
@@ -18,3 +21,6 @@ pub mod NetsRead
 pub mod Unjoined
 pub mod Records
 pub mod Routed
+pub mod Numbered
+pub mod Sizes
+pub mod Ties

@@ -17,7 +17,8 @@ use mathlib.Core.Bool.{Bool, true, false}
 use lib.ListN.{length, drop}
 use borrow.Author.Tests.{ne-eqb}
 use lib.Dec.{T, eqb, leb→le, le→leb}
-use Rattle.bits.specs.Bits.{field, whole, fieldBits, AllBelow}
+use Rattle.bits.specs.Bits.{field, whole, fieldBits}
+use Rattle.bits.specs.Puts.{AllBelow}
 use Rattle.bits.proofs.Laws.{length-fieldBits, field-below, field-split, field-here}
 use Rattle.job.specs.Reading.{good}
 use Rattle.job.proofs.Binds.{steps}

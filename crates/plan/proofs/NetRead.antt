@@ -10,7 +10,8 @@ use mathlib.Core.Logic.{_⊎_, inl, inr}
 use mathlib.Core.List.{List, [], _∷_, flatMap}
 use lib.ListN.{length, length-append}
 use lib.Dec.{T}
-use Rattle.bits.specs.Bits.{field, whole, fieldBits, AllBelow}
+use Rattle.bits.specs.Bits.{field, whole, fieldBits}
+use Rattle.bits.specs.Puts.{AllBelow}
 use Rattle.bits.proofs.Laws.{length-fieldBits, field-below}
 use Rattle.job.specs.Grid.{Grid}
 use Rattle.job.specs.Job.{Job}
@@ -20,21 +21,18 @@ use Rattle.job.proofs.Binds.{rule-good, then-good, bind-good}
 use Rattle.job.proofs.TwoWay.Places.{Placed, placed-nil, placed-append}
 use Rattle.rules.specs.Prices.{techOf}
 use Rattle.rules.specs.Walks.{walkCost}
-use Rattle.rules.specs.Standings.{Standing, joinedBy, Stands}
+use Rattle.rules.specs.Standings.{Standing, joinedBy}
+use Rattle.rules.specs.Apart.{Stands}
 use Rattle.rules.specs.Joins.{join, none}
 use Rattle.rules.specs.Routings.{Entry, Totals, withJoin, withNet}
-use Rattle.plan.specs.Layout.{recordBits, entryBits}
+use Rattle.plan.specs.Layout.{recordBits}
+use Rattle.plan.specs.Entries.{entryBits}
 use Rattle.plan.specs.Reading.{group, JoinRead, Progress, before, readJoin, byFlag, unlessJoined, readNet}
 use Rattle.plan.specs.Legal.{LegalJoin, NetEntries, allJoined, gaveUp, joins}
-use Rattle.plan.proofs.Unjoined.{none-left}
+use Rattle.plan.proofs.Unjoined.{none-left, some-left}
 use Rattle.plan.proofs.Moves.{field-placed}
 use Rattle.plan.proofs.JoinRead.{JoinAt, join-good, readOf, legal-walk, join-read}
 use Rattle.plan.proofs.Entries.{record-placed, length-record, legal-apart, legal-fewer}
-
--- some are left
-some-left : (u : List ℕ) → (u ≡ [] → ⊥) → 1 ≤ length u
-some-left [] h = absurd (h refl)
-some-left (x ∷ xs) h = omega arith
 
 -- no pin is unjoined, or records follow
 unless-good : (u : List ℕ) (done : Progress) (records : Read Progress) (p : Progress) → unlessJoined u done records ≡ good p

@@ -9,7 +9,7 @@ use mathlib.Core.Path.{_≡_, refl, sym}
 use mathlib.Core.Logic.{_↔_, Iff·rfl}
 use mathlib.Core.List.{List, [], _∷_, _++_, flatMap}
 use lib.ListN.{length, length-append}
-use Rattle.bits.specs.Bits.{AllBelow}
+use Rattle.bits.specs.Puts.{AllBelow}
 use Rattle.job.specs.Lists.{All}
 use Rattle.job.specs.Job.{Net, Job}
 use Rattle.job.specs.Good.{GoodJob}
@@ -18,9 +18,10 @@ use Rattle.job.proofs.Binds.{steps}
 use Rattle.job.proofs.TwoWay.Places.{Placed, placed-nil, placed-append}
 use Rattle.rules.specs.Views.{pinsOf}
 use Rattle.rules.specs.Prices.{techOf}
-use Rattle.rules.specs.Standings.{begun, Stands}
+use Rattle.rules.specs.Standings.{begun}
+use Rattle.rules.specs.Apart.{Stands}
 use Rattle.rules.specs.Routings.{Entry, Totals}
-use Rattle.plan.specs.Layout.{entryBits}
+use Rattle.plan.specs.Entries.{entryBits}
 use Rattle.plan.specs.Reading.{Progress, readNets}
 use Rattle.plan.specs.Legal.{JobEntries, noNets, nextNet}
 use Rattle.plan.proofs.Unjoined.{begun-length}

@@ -6,6 +6,7 @@
 --     routing-legal            routing's plan is legal
 --     routing-read             and read as what routing gives
 --     routing-plan-cheapest    and cheapest
+--     routing-plan-by-ties     and holds the joins that the ties name
 use Prim.Native.Nat.{ℕ, zero, suc, _≤_}
 use mathlib.Core.Path.{_≡_, refl, sym, ap, _∙_}
 use mathlib.Core.List.{List, [], _∷_}
@@ -18,7 +19,8 @@ use Rattle.job.specs.Reading.{good}
 use Rattle.rules.specs.Views.{pinsOf, viewOf}
 use Rattle.rules.specs.Prices.{techOf}
 use Rattle.rules.specs.Joins.{Record, join, none, joinOf}
-use Rattle.rules.specs.Standings.{Standing, metalAtFirst, begun, joinedBy, Stands}
+use Rattle.rules.specs.Standings.{Standing, metalAtFirst, begun, joinedBy}
+use Rattle.rules.specs.Apart.{Stands}
 use Rattle.rules.specs.Routings.{Totals, noTotals, withJoin, withNet, Routed, withEntry, afterJoin, byRecord, routeNet, routeNets, routing}
 use Rattle.rules.specs.Places.{GoodTech}
 use Rattle.rules.proofs.Techs.{good-tech}
@@ -28,12 +30,12 @@ use Rattle.rules.proofs.Standing.{nets-apart, joined-apart}
 use Rattle.plan.specs.Layout.{planOf}
 use Rattle.plan.specs.Reading.{readPlan}
 use Rattle.plan.specs.Legal.{NetEntries, allJoined, gaveUp, joins, JobEntries, noNets, nextNet, LegalPlan}
-use Rattle.plan.specs.Claim.{Cheapest}
+use Rattle.plan.specs.Claim.{Cheapest, ByTies}
 use Rattle.plan.proofs.Unjoined.{without-shorter, none-left, begun-length}
 use Rattle.plan.proofs.NetRead.{netTotals}
 use Rattle.plan.proofs.NetsRead.{jobMetal, jobTotals}
 use Rattle.plan.proofs.TwoWay.{plan-below, plan-read}
-use Rattle.plan.proofs.Records.{routing-cheapest}
+use Rattle.plan.proofs.Records.{routing-cheapest, routing-first}
 
 -- what was routed from a standing of net k is its entries, with the metal and the totals after them
 abbrev NetRouted : Job → (k : ℕ) → Standing → Totals → Routed → Type 0
@@ -137,3 +139,8 @@ module _ {j : Job} (good-j : GoodJob j) where
   pub routing-plan-cheapest : Cheapest j (planOf j)
   unfolding routing-legal
   routing-plan-cheapest = record { plan = routing-legal; cheapest = routing-cheapest good-j }
+
+  -- every record in routing's plan is the join that the ties name
+  pub routing-plan-by-ties : ByTies j (planOf j)
+  unfolding routing-legal
+  routing-plan-by-ties = record { plan = routing-legal; first = routing-first good-j }

@@ -12,7 +12,8 @@ use mathlib.Core.Path.{_≡_, refl, _∙_}
 use mathlib.Core.Logic.{_↔_}
 use mathlib.Core.List.{List, map}
 use lib.ListN.{length, drop}
-use Rattle.bits.specs.Bits.{number, bitsOf, fieldBits, AllBelow}
+use Rattle.bits.specs.Bits.{number, bitsOf, fieldBits}
+use Rattle.bits.specs.Puts.{AllBelow}
 use Rattle.bits.proofs.Laws.{fieldBits-bits, below-append, bitsOf-bits, packBits-bytes}
 use Rattle.job.specs.Grid.{Grid}
 use Rattle.job.specs.Job.{Job}
@@ -25,7 +26,8 @@ use Rattle.rules.specs.Standings.{metalAtFirst}
 use Rattle.rules.specs.Joins.{Record, join, none}
 use Rattle.rules.specs.Routings.{Entry, noTotals, Routed}
 use Rattle.rules.proofs.Standing.{nets-apart}
-use Rattle.plan.specs.Layout.{recordBits, planBytes, entryBits}
+use Rattle.plan.specs.Layout.{recordBits, planBytes}
+use Rattle.plan.specs.Entries.{entryBits}
 use Rattle.plan.specs.Reading.{Progress, readPlan}
 use Rattle.plan.specs.Legal.{LegalPlan}
 use Rattle.plan.proofs.NetsRead.{NetsAt, nets-good, jobMetal, jobTotals, nets-read}

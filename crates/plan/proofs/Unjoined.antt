@@ -1,6 +1,7 @@
 -- How many pins are unjoined.
 --     without-shorter     a pin taken out leaves fewer
 --     none-left           a list of length 0 is empty
+--     some-left           one that is not empty has a length
 --     begun-length        before the first join of a net
 use Prim.Native.Nat.{ℕ, suc, _≤_, _<_}
 use mathlib.Core.Path.{_≡_, refl, sym}
@@ -47,3 +48,8 @@ pub begun-length : (pins : List ℕ) (metal : List (List ℕ)) → length (begun
 unfolding begun
 begun-length [] metal = omega arith
 begun-length (first ∷ others) metal = omega arith
+
+-- some are left
+pub some-left : (u : List ℕ) → (u ≡ [] → ⊥) → 1 ≤ length u
+some-left [] h = absurd (h refl)
+some-left (x ∷ xs) h = omega arith

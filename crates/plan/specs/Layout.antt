@@ -4,10 +4,9 @@
 use Prim.Native.Nat.{ℕ}
 use mathlib.Core.List.{List, [], _∷_, _++_, map, flatMap}
 use lib.ListN.{length}
-use Rattle.bits.specs.Bits.{fieldBits, packBits}
+use Rattle.bits.specs.Bits.{fieldBits, packBits, groupBits}
 use Rattle.job.specs.Grid.{Grid}
 use Rattle.job.specs.Job.{Job}
-use Rattle.job.specs.Packing.{groupBits}
 use Rattle.rules.specs.Tracks.{layerOf, rowOf, columnOf}
 use Rattle.rules.specs.Joins.{Record, join, none}
 use Rattle.rules.specs.Routings.{Entry, routing}
@@ -17,10 +16,6 @@ recordBits g none = fieldBits 1 0
 recordBits g (join start moves cost) =
     groupBits ((1, 1) ∷ (3, layerOf g start) ∷ (8, rowOf g start) ∷ (8, columnOf g start) ∷ (20, length moves) ∷ [])
     ++ (flatMap (fieldBits 2) moves ++ fieldBits 40 cost)
-
--- the bits of entries, one after the other
-abbrev pub entryBits : Grid → List Entry → List ℕ
-entryBits g es = flatMap (recordBits g) (map (λ (e : Entry). e .written) es)
 
 unfoldable pub planBytes : Grid → List Record → List ℕ
 planBytes g records = packBits (flatMap (recordBits g) records)

@@ -12,7 +12,8 @@ use native.Mathlib.Omega.{arith}
 use lib.ListN.{length}
 use Rattle.job.specs.Grid.{vertices}
 use Rattle.job.specs.Job.{Layer, Obstacle, Net, Job}
-use Rattle.job.specs.Reading.{Read, refused, good, _>>=_, Head, jobHead, readMany, readLayer, readObstacle, readNets, readAfterHead}
+use Rattle.job.specs.Reading.{Read, refused, good, _>>=_, Head, readMany, readLayer, readObstacle, readNets, readAfterHead}
+use Rattle.job.specs.Heads.{jobHead}
 use Rattle.job.specs.Reading.{obstaclesAt, netsAt, netsWidth}
 use Rattle.job.specs.Good.{allPins}
 use Rattle.job.specs.Structs.{gridOf, headOf}

@@ -11,12 +11,14 @@ use mathlib.Core.Path.{_≡_, refl}
 use mathlib.Core.List.{List, [], _∷_, _++_, map, flatMap}
 use lib.ListN.{length, take}
 use lib.Dec.{T}
-use Rattle.bits.specs.Bits.{bitsOf, AllBelow}
+use Rattle.bits.specs.Bits.{bitsOf}
+use Rattle.bits.specs.Puts.{AllBelow}
 use Rattle.bits.proofs.Laws.{bitsOf-bits}
 use Rattle.job.specs.Lists.{All}
 use Rattle.job.specs.Grid.{Grid, Vertex, vertexNumber}
 use Rattle.job.specs.Job.{Obstacle, Box, Net, Job}
-use Rattle.job.specs.Reading.{good, jobHead, goodBox, netsAt, netWidth, netsWidth, readJob}
+use Rattle.job.specs.Reading.{good, goodBox, netsAt, netWidth, netsWidth, readJob}
+use Rattle.job.specs.Heads.{jobHead}
 use Rattle.job.specs.Packing.{vertexBits, boxBits, netBits}
 use Rattle.job.specs.Good.{GoodGrid, GoodPin, GoodNet}
 use Rattle.reader.specs.Loading.{pinNumbers, boxNumbers, boxesNumbers, netLoaded, NetRoom}

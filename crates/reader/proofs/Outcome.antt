@@ -9,7 +9,8 @@ use mathlib.Core.List.{List, [], _∷_}
 use native.Mathlib.Omega.{arith}
 use lib.ListN.{length, replicate}
 use Rattle.job.specs.Job.{Layer, Job, largestMinLength}
-use Rattle.job.specs.Reading.{Read, refused, good, jobHead, readJob}
+use Rattle.job.specs.Reading.{Read, refused, good, readJob}
+use Rattle.job.specs.Heads.{jobHead}
 use Rattle.job.specs.Good.{GoodLines, GoodJob}
 use Rattle.job.specs.Structs.{Small, headStruct}
 use Rattle.job.specs.Structs.{layersOf}

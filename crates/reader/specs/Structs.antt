@@ -3,7 +3,8 @@ use Prim.Native.Nat.{ℕ, _+_, max}
 use mathlib.Core.List.{List, [], _∷_}
 use lib.ListN.{set}
 use Rattle.job.specs.Job.{Layer, Job}
-use Rattle.job.specs.Reading.{Read, refused, good, Head, jobHead, netsAt, netsWidth}
+use Rattle.job.specs.Reading.{Read, refused, good, Head, netsAt, netsWidth}
+use Rattle.job.specs.Heads.{jobHead}
 use Rattle.job.specs.declared.groups.Head.{Head as HeadStruct}
 use Rattle.job.specs.declared.groups.Layer.{Layer as LayerStruct}
 use Rattle.reader.specs.declared.head.HeadRead.{HeadRead}

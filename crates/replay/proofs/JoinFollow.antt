@@ -7,7 +7,8 @@ use mathlib.Core.List.{List, _++_, append-nil}
 use mathlib.Core.Bool.{Bool, true, false, _&&_}
 use lib.ListN.{length, getD}
 use lib.Dec.{T, leb, eqb}
-use Rattle.bits.specs.Bits.{field, AllBelow}
+use Rattle.bits.specs.Bits.{field}
+use Rattle.bits.specs.Puts.{AllBelow}
 use Rattle.job.specs.Grid.{Grid, vertices, vertexNumber, inside}
 use Rattle.job.specs.Job.{Job}
 use Rattle.job.specs.Good.{GoodJob}
@@ -19,7 +20,8 @@ use Rattle.rules.specs.Views.{member, viewOf}
 use Rattle.rules.specs.Prices.{techOf}
 use Rattle.rules.specs.Places.{GoodSegment, GoodPlace}
 use Rattle.rules.specs.Walks.{startAt, walked, walkCost, verticesOf}
-use Rattle.rules.specs.Standings.{Standing, joinedBy, Stands}
+use Rattle.rules.specs.Standings.{Standing, joinedBy}
+use Rattle.rules.specs.Apart.{Stands}
 use Rattle.rules.proofs.Techs.{good-tech}
 use Rattle.rules.proofs.Walks.{route-walk}
 use Rattle.plan.specs.Reading.{group, Moved, JoinRead, readMoves, readJoin}

@@ -9,7 +9,8 @@ use Prim.Native.Nat.{ℕ, _+_, _*_, _^_, _≤_, _<_}
 use mathlib.Core.Path.{_≡_, refl, sym, ap, _∙_}
 use mathlib.Core.List.{List}
 use native.Mathlib.Omega.{arith}
-use Rattle.bits.specs.Bits.{field, AllBelow}
+use Rattle.bits.specs.Bits.{field}
+use Rattle.bits.specs.Puts.{AllBelow}
 use Rattle.bits.proofs.Laws.{field-below}
 use Rattle.job.specs.Grid.{Grid, vertices, vertexNumber}
 use Rattle.job.specs.Reading.{Read, refused, good, vertexAt}

@@ -5,7 +5,8 @@ use mathlib.Core.Path.{_≡_, refl, ap}
 use mathlib.Core.List.{List}
 use mathlib.Core.Bool.{Bool, true, false, cond}
 use lib.Dec.{eqb}
-use Rattle.bits.specs.Bits.{field, AllBelow}
+use Rattle.bits.specs.Bits.{field}
+use Rattle.bits.specs.Puts.{AllBelow}
 use Rattle.job.specs.Grid.{vertices}
 use Rattle.job.specs.Reading.{Read, refused, good}
 use Rattle.rules.specs.Views.{View}

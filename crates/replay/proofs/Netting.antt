@@ -6,7 +6,8 @@ use mathlib.Core.Path.{_≡_, refl, sym, ap, subst, _∙_}
 use mathlib.Core.List.{List, [], _∷_, _++_, append-assoc}
 use native.Mathlib.Omega.{arith}
 use lib.ListN.{length, take, replicate}
-use Rattle.bits.specs.Bits.{bitsOf, AllBelow}
+use Rattle.bits.specs.Bits.{bitsOf}
+use Rattle.bits.specs.Puts.{AllBelow}
 use Rattle.job.specs.Grid.{Grid, vertices}
 use Rattle.job.specs.Job.{Net, Job}
 use Rattle.job.specs.Reading.{Read, refused, good, _>>=_, readJob}

@@ -13,7 +13,8 @@ use native.Mathlib.Omega.{arith}
 use lib.ListN.{length}
 use lib.Dec.{eqb}
 use borrow.Author.Tests.{eqb-true, eqb-false}
-use Rattle.bits.specs.Bits.{field, whole, AllBelow}
+use Rattle.bits.specs.Bits.{field, whole}
+use Rattle.bits.specs.Puts.{AllBelow}
 use Rattle.job.specs.Reading.{Read, good, rule}
 use Rattle.rules.specs.Views.{View}
 use Rattle.rules.specs.Structs.{TechFits, techBy}

@@ -18,11 +18,13 @@ use Rattle.rules.specs.Routings.{noTotals, Routed}
 use Rattle.rules.specs.declared.price.Tech.{Tech as TechStruct}
 use Rattle.rules.specs.declared.totals.Totals.{Totals as TotalsStruct}
 use Rattle.plan.specs.Reading.{Progress, readNets, readPlan}
-use Rattle.metal.specs.Codes.{Codes, Beyond, zeroed}
+use Rattle.metal.specs.Codes.{Codes, Beyond}
+use Rattle.job.specs.Slices.{zeroed}
 use Rattle.metal.proofs.Slices.{beyond-trans, zeroed-kept}
 use Rattle.walker.specs.Structs.{PlanHeld}
 use Rattle.walker.proofs.Wholes.{laid-kept, read-grid, finished-map}
-use Rattle.replay.specs.Structs.{IsNets, IsReplayed, planFrom, IsEnd, finishedMap, replayedMap}
+use Rattle.replay.specs.Structs.{IsNets, IsReplayed, planFrom, IsEnd, finishedMap}
+use Rattle.plan.specs.Leaving.{replayedMap}
 use Rattle.replay.specs.declared.net.NetRead.{NetRead}
 use Rattle.replay.specs.declared.whole.Replayed.{Replayed}
 use Rattle.replay.proofs.Tails.{TailTest}

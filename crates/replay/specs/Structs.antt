@@ -10,7 +10,8 @@ use Rattle.job.specs.Grid.{Grid, vertices}
 use Rattle.job.specs.Job.{Job}
 use Rattle.job.specs.Reading.{Read, refused, good, _>>=_, _>>_, rule}
 use Rattle.plan.specs.Reading.{Progress}
-use Rattle.metal.specs.Codes.{Codes, zeroed, withObstacles}
+use Rattle.metal.specs.Codes.{Codes, withObstacles}
+use Rattle.job.specs.Slices.{zeroed}
 use Rattle.rules.specs.Views.{View}
 use Rattle.rules.specs.Places.{GoodPlace}
 use Rattle.rules.specs.Steps.{Made}
@@ -137,8 +138,3 @@ IsEnd bits read r = (g : Grid) (x : Read Progress) (codes : List ℕ) → IsNets
 unfoldable pub finishedMap : (occupants : List ℕ) → (count : ℕ) → Replayed → (map : List ℕ) → List ℕ
 finishedMap occupants count (Replayed.Refused n p) map = zeroed count map
 finishedMap occupants count (Replayed.Good totals) map = withObstacles occupants count map
-
--- "needed parts of map and work zero"; or the map of the metal. What lies past the need is as found
-unfoldable pub replayedMap : Job → Read Routed → (map : List ℕ) → List ℕ
-replayedMap j (refused n p) map = zeroed (vertices (j .grid)) map
-replayedMap j (good r) map = mapOf j (r .metal) ++ drop (vertices (j .grid)) map

@@ -14,8 +14,8 @@ use Rattle.job.specs.Job.{Job}
 use Rattle.job.specs.Reading.{Read, refused, good, _>>_, rule}
 use Rattle.rules.specs.Routings.{routing}
 use Rattle.plan.specs.Layout.{planOf}
-use Rattle.metal.specs.Codes.{zeroed}
-use Rattle.replay.specs.Structs.{replayedMap}
+use Rattle.job.specs.Slices.{zeroed}
+use Rattle.plan.specs.Leaving.{replayedMap}
 use Rattle.router.specs.Room.{workNeed, readWithRoom}
 use Rattle.router.specs.Routing.{RoutingOutcome, refusedRouting, totalResult, routingLeaves, routed, routingResult, planLeft, routingRead, routingOf}
 use Rattle.router.specs.declared.routing_call.RoutingResult.{RoutingResult}

@@ -8,9 +8,10 @@ use mathlib.Core.Path.{_≡_, refl, sym, ap, _∙_}
 use mathlib.Core.List.{List}
 use Rattle.job.specs.Job.{Job}
 use Rattle.job.specs.Reading.{refused, good}
-use Rattle.metal.specs.Codes.{zeroed}
+use Rattle.job.specs.Slices.{zeroed}
 use Rattle.plan.specs.Reading.{readPlan}
-use Rattle.replay.specs.Structs.{IsReplayed, replayedMap}
+use Rattle.replay.specs.Structs.{IsReplayed}
+use Rattle.plan.specs.Leaving.{replayedMap}
 use Rattle.replay.specs.declared.whole.Replayed.{Replayed}
 use Rattle.rules.specs.declared.totals.Totals.{Totals as TotalsStruct}
 use Rattle.router.specs.Room.{workNeed, readWithRoom}

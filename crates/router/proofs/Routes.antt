@@ -16,7 +16,7 @@ use lib.ListN.{length, getD, drop, replicate}
 use lib.Seq.{drop-at, drop-length}
 use lib.Dec.{ltb}
 use borrow.Author.Tests.{lt-ltb, le-ltb}
-use Rattle.bits.specs.Bits.{putBits, AllBelow}
+use Rattle.bits.specs.Puts.{putBits, AllBelow}
 use Rattle.bits.proofs.Laws.{length-packBits, length-putBits, put-packed}
 use Rattle.job.specs.Grid.{vertices}
 use Rattle.job.specs.Job.{Job, largestMinLength}
@@ -28,11 +28,12 @@ use Rattle.rules.specs.Prices.{techOf}
 use Rattle.rules.specs.Structs.{techBy}
 use Rattle.plan.specs.Layout.{planOf, planBytes}
 use Rattle.plan.proofs.TwoWay.{entries-below}
-use Rattle.metal.specs.Codes.{zeroed, Bare}
+use Rattle.metal.specs.Codes.{Bare}
+use Rattle.job.specs.Slices.{zeroed}
 use Rattle.metal.proofs.Slices.{zeroed-bare, zeroed-beyond}
 use Rattle.metal.proofs.Finished.{length-map}
 use Rattle.walker.specs.Structs.{PlanHeld}
-use Rattle.replay.specs.Structs.{replayedMap}
+use Rattle.plan.specs.Leaving.{replayedMap}
 use Rattle.search.specs.Charts.{Blank}
 use Rattle.routing.specs.Plans.{planBits}
 use Rattle.router.specs.Room.{workNeed, readWithRoom}

@@ -9,7 +9,8 @@ use lib.ListN.{length}
 use Rattle.job.specs.Grid.{vertices}
 use Rattle.job.specs.Job.{Job}
 use Rattle.job.specs.Good.{GoodJob, allPins}
-use Rattle.job.specs.Reading.{Read, refused, good, jobHead, netsAt, readJob}
+use Rattle.job.specs.Reading.{Read, refused, good, netsAt, readJob}
+use Rattle.job.specs.Heads.{jobHead}
 use Rattle.job.specs.Structs.{gridOf, headStruct, layersOf}
 use Rattle.job.specs.declared.groups.Head.{Head as HeadStruct}
 use Rattle.job.specs.declared.layers.Layers.{Layers}

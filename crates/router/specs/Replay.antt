@@ -9,8 +9,8 @@ use Rattle.job.specs.Job.{Job}
 use Rattle.job.specs.Reading.{Read, refused, good}
 use Rattle.rules.specs.Routings.{Routed}
 use Rattle.plan.specs.Reading.{readPlan}
-use Rattle.metal.specs.Codes.{zeroed}
-use Rattle.replay.specs.Structs.{replayedMap}
+use Rattle.job.specs.Slices.{zeroed}
+use Rattle.plan.specs.Leaving.{replayedMap}
 use Rattle.router.specs.Room.{workNeed, readWithRoom}
 use Rattle.router.specs.declared.replay_call.ReplayResult.{ReplayResult}
 

@@ -7,7 +7,7 @@ ghost use lib.Dec.{ltb};
 ghost use Rattle.job.specs.Job.{Job};
 ghost use Rattle.job.specs.Reading.{good, readJob};
 ghost use Rattle.plan.specs.Claim.{Cheapest};
-ghost use Rattle.metal.specs.Codes.{zeroed};
+ghost use Rattle.job.specs.Slices.{zeroed};
 ghost use Rattle.walker.specs.Structs.{totalsOf};
 ghost use Rattle.router.specs.Held.{JobHeld};
 ghost use Rattle.router.specs.Routing.{refusedRouting, totalResult, routingLeaves, routingOf};

@@ -57,21 +57,3 @@ module _ {j : Job} (good-j : GoodJob j) (k : ℕ) (view : View) (pins : List ℕ
             (stood-joined (j .grid) k s (w .made) (w .last .vertex) (by .left) (end-entered (w .last .vertex) (s .tree) (w .way) (w .enters)) (by .stood));
         kept = by .kept;
       }
-
--- every pin is joined
-pub route-all : (j : Job) (k n : ℕ) (s : Standing) (totals : Totals) → s .unjoined ≡ []
-    → routeNet j k n s totals ≡ record { entries = []; metal = s .metal; totals = withNet totals }
-unfolding routeNet
-route-all j k zero s totals none = refl
-route-all j k (suc n) s totals none = rw none refl
-
--- a pin is unjoined
-pub route-more : (j : Job) (k n : ℕ) (s : Standing) (totals : Totals) → (s .unjoined ≡ [] → ⊥)
-    → routeNet j k (suc n) s totals ≡ byRecord j k s totals (routeNet j k n) (joinOf (techOf j) (viewOf j k (s .metal)) (s .tree) (s .unjoined))
-unfolding routeNet
-route-more j k n s totals some = by (s .unjoined) refl
-  where
-    by : (u : List ℕ) → s .unjoined ≡ u
-        → routeNet j k (suc n) s totals ≡ byRecord j k s totals (routeNet j k n) (joinOf (techOf j) (viewOf j k (s .metal)) (s .tree) (s .unjoined))
-    by [] e = absurd (some e)
-    by (p ∷ ps) e = rw e refl

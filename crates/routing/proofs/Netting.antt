@@ -8,7 +8,8 @@ use mathlib.Core.Path.{_≡_, refl, sym, ap, subst, _∙_}
 use mathlib.Core.List.{List, [], _∷_, _++_, append-assoc, append-nil, flatMap}
 use native.Mathlib.Omega.{arith}
 use lib.ListN.{length, take, replicate, length-append}
-use Rattle.bits.specs.Bits.{bitsOf, putBits}
+use Rattle.bits.specs.Bits.{bitsOf}
+use Rattle.bits.specs.Puts.{putBits}
 use Rattle.bits.proofs.Laws.{putBits-append}
 use Rattle.job.specs.Lists.{All}
 use Rattle.job.specs.Grid.{vertices}
@@ -25,7 +26,7 @@ use Rattle.rules.specs.Joins.{Record, join, none, joinOf}
 use Rattle.rules.specs.Routings.{Entry, Totals, noTotals, withJoin, withNet, Routed, withEntry, afterJoin, byRecord, routeNet, routeNets, routing}
 use Rattle.rules.specs.declared.price.Tech.{Tech as TechStruct}
 use Rattle.rules.specs.declared.totals.Totals.{Totals as TotalsStruct}
-use Rattle.plan.specs.Layout.{entryBits}
+use Rattle.plan.specs.Entries.{entryBits}
 use Rattle.plan.proofs.Entries.{entries-append}
 use Rattle.metal.proofs.Slices.{beyond-trans}
 use Rattle.tree.specs.Spots.{begunSpots}

@@ -9,7 +9,8 @@ use mathlib.Core.List.{List, [], _∷_, _++_, append-assoc, append-nil, flatMap}
 use mathlib.Core.Bool.{true}
 use native.Mathlib.Omega.{arith}
 use lib.ListN.{length, length-append}
-use Rattle.bits.specs.Bits.{fieldBits, putBits}
+use Rattle.bits.specs.Bits.{fieldBits}
+use Rattle.bits.specs.Puts.{putBits}
 use Rattle.bits.proofs.Laws.{length-fieldBits, putBits-append}
 use Rattle.job.specs.Grid.{Grid}
 use Rattle.job.specs.Job.{Job}
@@ -17,14 +18,16 @@ use Rattle.job.proofs.TwoWay.Places.{widths, length-groupBits}
 use Rattle.job.proofs.TwoWay.Widths.{concat-bits}
 use Rattle.rules.specs.Views.{View, viewOf}
 use Rattle.rules.specs.Prices.{Tech, techOf}
-use Rattle.rules.specs.Standings.{Standing, Apart, joinedBy}
+use Rattle.rules.specs.Standings.{Standing, joinedBy}
+use Rattle.rules.specs.Apart.{Apart}
 use Rattle.rules.specs.Joins.{Record, join, none, joinOf}
 use Rattle.rules.specs.Walks.{Walked}
 use Rattle.rules.specs.Routings.{Entry, Totals, withJoin, Routed, withEntry, afterJoin, byRecord, routeNet}
 use Rattle.rules.specs.Structs.{techBy}
 use Rattle.rules.specs.declared.price.Tech.{Tech as TechStruct}
 use Rattle.rules.specs.declared.totals.Totals.{Totals as TotalsStruct}
-use Rattle.plan.specs.Layout.{recordBits, entryBits}
+use Rattle.plan.specs.Layout.{recordBits}
+use Rattle.plan.specs.Entries.{entryBits}
 use Rattle.plan.proofs.Entries.{entries-append}
 use Rattle.metal.proofs.Slices.{beyond-trans}
 use Rattle.tree.specs.Spots.{Spots, someUnjoined}
@@ -38,7 +41,8 @@ use Rattle.joins.specs.declared.join.Joined.{Joined}
 use Rattle.joins.specs.declared.join.Joined.the-variants as Joins
 use Rattle.routing.specs.Structs.{NetHere, IsRouted}
 use Rattle.routing.specs.declared.routed.Routed.{Routed as RoutedStruct}
-use Rattle.routing.proofs.Joins.{join-made, route-more}
+use Rattle.rules.proofs.Routes.{route-more}
+use Rattle.routing.proofs.Joins.{join-made}
 use Rattle.routing.proofs.Records.{withEntries, Told, Recording, Answers}
 
 -- an entry before them is one at the end of those before

@@ -9,7 +9,7 @@ use mathlib.Core.List.{List, [], _++_, append-nil, flatMap}
 use mathlib.Core.Bool.{false}
 use native.Mathlib.Omega.{arith}
 use lib.ListN.{length}
-use Rattle.bits.specs.Bits.{putBits}
+use Rattle.bits.specs.Puts.{putBits}
 use Rattle.job.specs.Grid.{vertices}
 use Rattle.job.specs.Job.{Job}
 use Rattle.rules.specs.Views.{View}
@@ -17,7 +17,7 @@ use Rattle.rules.specs.Standings.{Standing}
 use Rattle.rules.specs.Routings.{Entry, withNet, Routed, routeNet}
 use Rattle.rules.specs.declared.price.Tech.{Tech as TechStruct}
 use Rattle.rules.specs.declared.totals.Totals.{Totals as TotalsStruct}
-use Rattle.plan.specs.Layout.{entryBits}
+use Rattle.plan.specs.Entries.{entryBits}
 use Rattle.metal.specs.Codes.{Beyond}
 use Rattle.metal.proofs.Slices.{beyond-refl}
 use Rattle.tree.specs.Spots.{someUnjoined}
@@ -27,7 +27,7 @@ use Rattle.walker.specs.Standing.{AtNet}
 use Rattle.walker.specs.Structs.{totalsOf, Bounded}
 use Rattle.routing.specs.Structs.{NetHere, IsRouted}
 use Rattle.routing.specs.declared.routed.Routed.{Routed as RoutedStruct}
-use Rattle.routing.proofs.Joins.{route-all}
+use Rattle.rules.proofs.Routes.{route-all}
 
 -- entries before those that follow
 unfoldable pub withEntries : List Entry → Routed → Routed

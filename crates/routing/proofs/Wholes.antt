@@ -6,7 +6,7 @@ use mathlib.Core.Path.{_≡_, sym, ap, subst, _∙_}
 use mathlib.Core.List.{List, _++_}
 use native.Mathlib.Omega.{arith}
 use lib.ListN.{length, drop}
-use Rattle.bits.specs.Bits.{putBits}
+use Rattle.bits.specs.Puts.{putBits}
 use Rattle.job.specs.Grid.{Grid, vertices}
 use Rattle.job.specs.Job.{Job}
 use Rattle.job.specs.Reading.{good, readJob}
@@ -14,7 +14,8 @@ use Rattle.job.specs.Structs.{gridOf}
 use Rattle.rules.specs.Routings.{routing}
 use Rattle.rules.specs.Maps.{mapOf}
 use Rattle.rules.specs.declared.price.Tech.{Tech as TechStruct}
-use Rattle.metal.specs.Codes.{Codes, Beyond, zeroed, withObstacles}
+use Rattle.metal.specs.Codes.{Codes, Beyond, withObstacles}
+use Rattle.job.specs.Slices.{zeroed}
 use Rattle.metal.proofs.Slices.{beyond-trans}
 use Rattle.walker.specs.Structs.{totalsOf, PlanHeld}
 use Rattle.walker.proofs.Wholes.{laid-kept, after-long, read-grid, finished-map}

@@ -3,7 +3,7 @@ use Prim.Native.Nat.{ℕ}
 use mathlib.Core.List.{List}
 use Rattle.job.specs.Job.{Job}
 use Rattle.rules.specs.Routings.{routing}
-use Rattle.plan.specs.Layout.{entryBits}
+use Rattle.plan.specs.Entries.{entryBits}
 
 unfoldable pub planBits : Job → List ℕ
 planBits j = entryBits (j .grid) (routing j .entries)

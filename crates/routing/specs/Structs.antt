@@ -5,7 +5,7 @@ use Prim.Native.Nat.{ℕ, suc, _+_, _<_}
 use mathlib.Core.Path.{_≡_}
 use mathlib.Core.List.{List}
 use lib.ListN.{length}
-use Rattle.bits.specs.Bits.{putBits}
+use Rattle.bits.specs.Puts.{putBits}
 use Rattle.job.specs.Lists.{All}
 use Rattle.job.specs.Grid.{vertices}
 use Rattle.job.specs.Job.{Job}
@@ -16,7 +16,7 @@ use Rattle.rules.specs.Standings.{Standing}
 use Rattle.rules.specs.Routings.{Routed}
 use Rattle.rules.specs.Structs.{techBy}
 use Rattle.rules.specs.declared.price.Tech.{Tech as TechStruct}
-use Rattle.plan.specs.Layout.{entryBits}
+use Rattle.plan.specs.Entries.{entryBits}
 use Rattle.metal.specs.Codes.{Codes, Beyond}
 use Rattle.walker.specs.Entering.{Arrays}
 use Rattle.walker.specs.Standing.{AtNet}

@@ -3,7 +3,7 @@ ghost use mathlib.Core.Path.{_≡_};
 ghost use mathlib.Core.List.{_++_};
 ghost use Prim.Native.Nat.{_≤_, _*_, _^_};
 ghost use lib.ListN.{length, drop};
-ghost use Rattle.bits.specs.Bits.{putBits};
+ghost use Rattle.bits.specs.Puts.{putBits};
 ghost use Rattle.job.specs.Grid.{vertices};
 ghost use Rattle.job.specs.Job.{Job};
 ghost use Rattle.job.specs.Reading.{good, readJob};

@@ -17,8 +17,10 @@ use lib.Dec.{T, leb, leb→le, eqb→eq}
 use Rattle.job.specs.Grid.{vertices}
 use Rattle.job.specs.Job.{largestMinLength}
 use Rattle.job.proofs.Tests.{and-holds}
-use Rattle.paths.specs.Distances.{Cost, fin, inf, within, through, isCost, Table, dist}
-use Rattle.paths.specs.Starts.{Choice, startCost, Chooses}
+use Rattle.paths.specs.Distances.{Cost, fin, inf, through, isCost, dist}
+use Rattle.paths.specs.Tables.{within, Table}
+use Rattle.paths.specs.Starts.{Choice, startCost}
+use Rattle.paths.specs.Foremost.{Chooses}
 use Rattle.paths.proofs.Starts.{best-chooses, best-same}
 use Rattle.paths.proofs.Cheapest.{table-dist, follow-dist}
 use Rattle.rules.specs.Views.{View, member}

@@ -12,7 +12,8 @@ use Rattle.rules.specs.Views.{pinsOf, viewOf}
 use Rattle.rules.specs.Prices.{techOf}
 use Rattle.rules.specs.Walks.{Walked, stuck, walked, startAt, walk}
 use Rattle.rules.specs.Joins.{Record, join, none, joinOf}
-use Rattle.rules.specs.Standings.{Standing, metalAtFirst, begun, joinedBy, Stands}
+use Rattle.rules.specs.Standings.{Standing, metalAtFirst, begun, joinedBy}
+use Rattle.rules.specs.Apart.{Stands}
 use Rattle.rules.specs.Routings.{Entry, Totals, noTotals, withJoin, withNet, Routed, withEntry, afterJoin, byRecord, routeNet, routeNets, routing}
 use Rattle.rules.proofs.Techs.{good-tech}
 use Rattle.rules.proofs.Laid.{all-append}

@@ -3,6 +3,7 @@
 --     join-is, join-only       `joinOf` is the join, and nothing else is
 --     join-route               its moves are a route
 --     join-least, join-none    no rival costs less; where there is no join there is no rival
+--     join-short               it has fewer moves than there are places
 --     join-fits                it has fewer than 2^20 moves and costs less than 2^40
 use Prim.Native.Nat.{ℕ, _^_, _≤_, _<_}
 use mathlib.Core.Path.{_≡_, refl, sym, ap, _∙_}
@@ -13,16 +14,18 @@ use native.Mathlib.Omega.{arith}
 use native.Mathlib.Decide.{decLt}
 use lib.ListN.{length}
 use Rattle.job.specs.Grid.{vertices}
-use Rattle.paths.specs.Systems.{System, Lawful}
-use Rattle.paths.specs.Distances.{Cost, dist, Table, follow}
-use Rattle.paths.specs.Starts.{Choice, best, Starts, GoodStarts, startCost, Join, Ahead, byCost, Foremost, joinFrom as joinAt}
+use Rattle.paths.specs.Systems.{System}
+use Rattle.paths.specs.Tables.{Lawful, Table}
+use Rattle.paths.specs.Distances.{Cost, dist, follow}
+use Rattle.paths.specs.Starts.{Choice, best, Starts, startCost, Join, Ahead, byCost}
+use Rattle.paths.specs.Foremost.{GoodStarts, Foremost, joinFrom as joinAt}
 use Rattle.paths.proofs.Cheapest.{shorter, route-rival, route-cost, dist-table, follow-short}
 use Rattle.paths.proofs.Cheapest.{start-foremost, start-none, ahead-total}
 use Rattle.rules.specs.Views.{View}
 use Rattle.rules.specs.Segments.{Place}
 use Rattle.rules.specs.Prices.{Tech}
 use Rattle.rules.specs.Walks.{system, startAt, Rival, Route}
-use Rattle.rules.specs.Standings.{Apart}
+use Rattle.rules.specs.Apart.{Apart}
 use Rattle.rules.specs.Joins.{Record, join, none, IsJoin, first, noRoute, places, starts, joinFrom, joinBy, joinOf}
 use Rattle.rules.specs.Places.{placeCode, GoodPlace, GoodTech}
 use Rattle.rules.proofs.Places.{start-good, places-small}
@@ -145,7 +148,7 @@ module _ {t : Tech} (good : GoodTech t) (view : View) {tree unjoined : List ℕ}
       by (noRoute nothing is) = let (ns, d, route, cheaper) = route-for r in nothing (record { cost = d; start = s; moves = ns }) route
 
   -- a join has fewer moves than there are places
-  join-short : {s c : ℕ} {ms : List ℕ} → joinOf t view tree unjoined ≡ join s ms c → length ms < places t
+  pub join-short : {s c : ℕ} {ms : List ℕ} → joinOf t view tree unjoined ≡ join s ms c → length ms < places t
   unfolding joinOf joinBy joinFrom
   join-short {s} {c} {ms} e = by (best (startCost X D) (vertices (t .grid))) refl e
     where

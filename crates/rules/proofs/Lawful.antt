@@ -5,7 +5,7 @@ use Prim.Native.Nat.{ℕ, _*_, _^_, _<_}
 use mathlib.Core.List.{List}
 use native.Mathlib.Nat.{mul-le-mul, le-refl, lt-of-le-of-lt}
 use native.Mathlib.Omega.{arith}
-use Rattle.paths.specs.Systems.{Lawful}
+use Rattle.paths.specs.Tables.{Lawful}
 use Rattle.rules.specs.Views.{View}
 use Rattle.rules.specs.Prices.{Tech}
 use Rattle.rules.specs.Walks.{system}

@@ -41,6 +41,7 @@ pub mod Joins
 pub mod Members
 pub mod Standing
 pub mod Entries
+pub mod Routes
 pub mod Certificates
 pub mod Fitting
 pub mod Held

@@ -15,7 +15,8 @@ use native.Mathlib.Omega.{arith}
 use borrow.Author.Tests.{ltb-true, lt-ltb}
 use Rattle.job.specs.Grid.{Grid, Vertex, vertices, vertexNumber, stepsColumn, nextHigh, strideOf}
 use Rattle.job.proofs.Grids.{Below, below-number, number-next, next-layer}
-use Rattle.rules.specs.Tracks.{layerOf, rowOf, columnOf, vertexBy, indexOn, lengthOn, trackIndex, trackLength, outside, at, ifThere, entered}
+use Rattle.rules.specs.Tracks.{layerOf, rowOf, columnOf, vertexBy, trackIndex, trackLength, outside, at, ifThere, entered}
+use Rattle.rules.specs.Structs.{indexOn, lengthOn}
 use Rattle.rules.proofs.Vertices.{number-vertex, vertex-number, vertex-below}
 
 -- a vertex that is entered only where a test holds

@@ -17,11 +17,11 @@ use Rattle.job.specs.Grid.{Grid, vertices, strideOf}
 use Rattle.job.specs.Structs.{gridOf}
 use Rattle.job.specs.declared.grid.Grid.{Grid as GridStruct}
 use Rattle.job.specs.declared.grid.Vertex.{Vertex as VertexStruct}
-use Rattle.rules.specs.Tracks.{layerOf, lengthOn, trackIndex, trackLength, outside, at, ifThere, entered}
+use Rattle.rules.specs.Tracks.{layerOf, trackIndex, trackLength, outside, at, ifThere, entered}
+use Rattle.rules.specs.Structs.{lengthOn, roomIn, nextOn}
 use Rattle.rules.specs.Views.{View}
 use Rattle.rules.specs.Segments.{Direction, low, high}
 use Rattle.rules.specs.Overheads.{clear, toward, onFrom, clearRun}
-use Rattle.rules.specs.Structs.{roomIn, nextOn}
 use Rattle.rules.specs.declared.track.Track.{Track}
 use Rattle.rules.proofs.Neighbours.{low-enters, high-enters}
 use Rattle.rules.proofs.Fitting.{TrackRead}

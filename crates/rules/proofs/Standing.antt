@@ -25,7 +25,8 @@ use Rattle.rules.specs.Segments.{Place}
 use Rattle.rules.specs.Prices.{Tech, techOf}
 use Rattle.rules.specs.Steps.{Made}
 use Rattle.rules.specs.Walks.{startAt, Route, walked, walk, verticesOf}
-use Rattle.rules.specs.Standings.{Standing, Stands, begun, without, joinedBy}
+use Rattle.rules.specs.Standings.{Standing, begun, without, joinedBy}
+use Rattle.rules.specs.Apart.{Stands}
 use Rattle.rules.specs.Places.{GoodTech}
 use Rattle.rules.proofs.Members.{not-both, neither, member-none, member-here, member-append, member-all, without-one, without-less}
 use Rattle.rules.proofs.Walks.{Passed, Walks, route-walk}

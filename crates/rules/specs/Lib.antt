@@ -14,3 +14,4 @@ pub mod Seen
 pub mod PriceLists
 pub mod Structs
 pub mod Lists
+pub mod Apart

@@ -2,7 +2,6 @@
 --     metalAtFirst     every pin is metal of its net from the start
 --     Standing         of the net at hand
 --     begun, joinedBy  before its first join, and after one
---     Apart, Stands    tree and unjoined pins are apart
 use Prim.Native.Nat.{ℕ, zero, suc, _<_}
 use mathlib.Core.Path.{_≡_}
 use mathlib.Core.List.{List, [], _∷_, _++_, map}
@@ -49,12 +48,3 @@ joinedBy k s end made =
       unjoined = without end (s .unjoined);
       metal = more k (verticesOf made ++ laidOf made) (s .metal);
     }
-
--- the vertices of a tree are of the grid, and none is an unjoined pin
-pub record Apart (t : Tech) (tree unjoined : List ℕ) : Type 0 where
-  pub onGrid : (v : ℕ) → member v tree ≡ true → v < vertices (t .grid)
-  pub noGoal : (v : ℕ) → member v tree ≡ true → member v unjoined ≡ false
-
--- the tree and the unjoined pins of a standing are apart
-abbrev pub Stands : Tech → Standing → Type 0
-Stands t s = Apart t (s .tree) (s .unjoined)

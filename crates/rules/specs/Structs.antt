@@ -4,7 +4,7 @@ use mathlib.Core.Path.{_≡_}
 use mathlib.Core.List.{List, [], _∷_}
 use mathlib.Core.Bool.{Bool, true, false, not, cond}
 use lib.ListN.{length, getD}
-use Rattle.job.specs.Grid.{Grid, Vertex, vertices, strideOf}
+use Rattle.job.specs.Grid.{Grid, Vertex, vertices, stepsColumn, strideOf}
 use Rattle.job.specs.Job.{Layer, largestMinLength}
 use Rattle.job.specs.Structs.{Small, Sized, gridOf, vertexStruct}
 use Rattle.paths.specs.Systems.{Step, blocked, to}
@@ -16,7 +16,7 @@ use Rattle.job.specs.declared.layers.Layers.{Layers}
 use Rattle.job.specs.declared.penalty.Penalty.{Penalty}
 use Rattle.job.specs.declared.penalty.Penalty.the-variants.{Closed, Price}
 use Rattle.rules.specs.declared.price.Tech.{Tech as TechStruct}
-use Rattle.rules.specs.Tracks.{vertexBy, indexOn, lengthOn, Entered, outside, at, entered}
+use Rattle.rules.specs.Tracks.{vertexBy, Entered, outside, at, entered}
 use Rattle.rules.specs.Views.{View}
 use Rattle.rules.specs.Segments.{Direction, low, high, Kind, along, down, up, against, Segment, fresh, running, paid, paidToward, Place, Grown, back, grown}
 use Rattle.rules.specs.Overheads.{clearRun, Overhead, forbidden, owes, otherwise, lengthenedBy, overheadOf}
@@ -56,6 +56,14 @@ pub record OnGrid (g : GridStruct) (v : ℕ) : Type 0 where
 unfoldable pub enteredOf : Entered → EnteredEnum
 enteredOf outside = Outside
 enteredOf (at w) = At w
+
+-- a step on the vertex's layer changes this, its column or its row
+abbrev pub indexOn : Grid → Vertex → ℕ
+indexOn g x = cond (stepsColumn g (x .layer)) (x .column) (x .row)
+
+-- how long a layer's tracks are
+abbrev pub lengthOn : Grid → (layer : ℕ) → ℕ
+lengthOn g layer = cond (stepsColumn g layer) (g .columns) (g .rows)
 
 -- where a vertex lies on its track, the track's length, and what a step high adds to a vertex number
 abbrev pub trackOf : Grid → Vertex → Track

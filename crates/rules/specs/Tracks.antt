@@ -1,7 +1,6 @@
 -- Vertices by number, and the vertex that a move enters.
 --     layerOf, rowOf, columnOf, vertexBy     a vertex taken apart
---     indexOn, lengthOn                      where on its track a vertex lies, and how long the track is
---     trackIndex, trackLength                the same by its number
+--     trackIndex, trackLength                where on its track a vertex lies, and how long the track is
 --     entered                                the vertex that a move enters, if it stays in the grid
 use Prim.Native.Nat.{ℕ, zero, suc, _+_, _-_, _*_, _/_, _%_}
 use mathlib.Core.Bool.{Bool, cond}
@@ -22,20 +21,13 @@ columnOf g v = v % g .columns
 abbrev pub vertexBy : Grid → ℕ → Vertex
 vertexBy g v = record { layer = layerOf g v; row = rowOf g v; column = columnOf g v }
 
--- a step on the vertex's layer changes this, its column or its row
-abbrev pub indexOn : Grid → Vertex → ℕ
-indexOn g x = cond (stepsColumn g (x .layer)) (x .column) (x .row)
-
--- how long a layer's tracks are
-abbrev pub lengthOn : Grid → (layer : ℕ) → ℕ
-lengthOn g layer = cond (stepsColumn g layer) (g .columns) (g .rows)
-
--- the same by the vertex's number
+-- where on its track a vertex lies: a step on its layer changes this, its column or its row
 unfoldable pub trackIndex : Grid → ℕ → ℕ
-trackIndex g v = indexOn g (vertexBy g v)
+trackIndex g v = cond (stepsColumn g (layerOf g v)) (columnOf g v) (rowOf g v)
 
+-- how long the track is
 unfoldable pub trackLength : Grid → ℕ → ℕ
-trackLength g v = lengthOn g (layerOf g v)
+trackLength g v = cond (stepsColumn g (layerOf g v)) (g .columns) (g .rows)
 
 pub data Entered : Type 0 where
   outside : Entered

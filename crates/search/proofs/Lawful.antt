@@ -10,8 +10,9 @@ use Prim.Native.Nat.{ℕ}
 use lib.ListN.{getD}
 use lib.Dec.{eqb}
 use borrow.Author.Tests.{eqb-true, ne-eqb}
-use Rattle.paths.specs.Systems.{to, Lawful}
-use Rattle.paths.specs.Starts.{GoodStarts}
+use Rattle.paths.specs.Systems.{to}
+use Rattle.paths.specs.Tables.{Lawful}
+use Rattle.paths.specs.Foremost.{GoodStarts}
 use Rattle.rules.specs.Tracks.{at, entered}
 use Rattle.rules.specs.Views.{View}
 use Rattle.rules.specs.Segments.{kindOf, Place}

@@ -29,7 +29,8 @@ use Rattle.reader.specs.declared.load.NetLoaded.{NetLoaded}
 use Rattle.reader.proofs.Loaded.{first-net, net-told, all-below, all-one}
 use Rattle.rules.specs.Views.{View, member, pinsOf, viewOf}
 use Rattle.rules.specs.Prices.{techOf}
-use Rattle.rules.specs.Standings.{metalAtFirst, begun, Stands}
+use Rattle.rules.specs.Standings.{metalAtFirst, begun}
+use Rattle.rules.specs.Apart.{Stands}
 use Rattle.rules.specs.Structs.{techBy}
 use Rattle.rules.specs.declared.price.Tech.{Tech as TechStruct}
 use Rattle.rules.proofs.Standing.{nets-apart}

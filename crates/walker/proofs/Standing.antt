@@ -18,7 +18,8 @@ use Rattle.rules.specs.Views.{View, member}
 use Rattle.rules.specs.Prices.{techOf}
 use Rattle.rules.specs.Steps.{Made}
 use Rattle.rules.specs.Walks.{verticesOf, laidOf}
-use Rattle.rules.specs.Standings.{Standing, without, more, joinedBy, Stands}
+use Rattle.rules.specs.Standings.{Standing, without, more, joinedBy}
+use Rattle.rules.specs.Apart.{Stands}
 use Rattle.rules.proofs.Own.{view-own}
 use Rattle.rules.proofs.Members.{not-both, member-one, member-both, without-less}
 use Rattle.rules.proofs.Laid.{all-append}

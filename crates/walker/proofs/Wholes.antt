@@ -20,7 +20,8 @@ use Rattle.rules.specs.Standings.{metalAtFirst}
 use Rattle.rules.specs.Maps.{mapOf}
 use Rattle.rules.specs.Structs.{techBy}
 use Rattle.rules.specs.declared.price.Tech.{Tech as TechStruct}
-use Rattle.metal.specs.Codes.{Codes, Beyond, Bare, zeroed, withObstacles}
+use Rattle.metal.specs.Codes.{Codes, Beyond, Bare, withObstacles}
+use Rattle.job.specs.Slices.{zeroed}
 use Rattle.metal.specs.Jobs.{JobHeld}
 use Rattle.metal.proofs.Slices.{beyond-trans, zeroed-bare, zeroed-beyond}
 use Rattle.metal.proofs.Finished.{map-finished}

@@ -10,7 +10,8 @@ use Rattle.job.specs.Grid.{Grid, vertices}
 use Rattle.job.specs.Job.{Job}
 use Rattle.rules.specs.Views.{View, member, viewOf}
 use Rattle.rules.specs.Prices.{techOf}
-use Rattle.rules.specs.Standings.{Standing, Stands}
+use Rattle.rules.specs.Standings.{Standing}
+use Rattle.rules.specs.Apart.{Stands}
 use Rattle.metal.specs.Codes.{Codes}
 use Rattle.tree.specs.Spots.{Spots}
 use Rattle.walker.specs.Entering.{Arrays}

@@ -10,7 +10,8 @@ use lib.ListN.{length}
 use Rattle.job.specs.Grid.{vertices}
 use Rattle.job.specs.Job.{Job}
 use Rattle.job.specs.Good.{allPins}
-use Rattle.job.specs.Reading.{good, jobHead, netsAt, readJob}
+use Rattle.job.specs.Reading.{good, netsAt, readJob}
+use Rattle.job.specs.Heads.{jobHead}
 use Rattle.occupants.specs.Occupants.{Occupants}
 use Rattle.rules.specs.Prices.{techOf}
 use Rattle.rules.specs.Standings.{metalAtFirst}

@@ -11,7 +11,8 @@ use native.Mathlib.Omega.{arith}
 use lib.ListN.{length, take, drop, getD, replicate, length-append, length-take, length-drop, length-replicate, take-append-drop, replicate-append-replicate}
 use lib.Seq.{take-nil, drop-nil, take-append-add, drop-append-add, drop-cons, take-at, drop-at, drop-drop, length-take-le}
 use lib.Pow.{pow-mono}
-use Rattle.bits.specs.Bits.{fieldBits, number, bitsOf, packTo, packBits, field, AllBelow}
+use Rattle.bits.specs.Bits.{fieldBits, number, bitsOf, packTo, packBits, field}
+use Rattle.bits.specs.Puts.{AllBelow}
 use Rattle.bits.proofs.Laws.Numbers.{length-fieldBits, fieldBits-bits, number-fieldBits, fieldBits-number, number-below, below-append, below-take, below-drop, below-replicate}
 
 -- ---- the bits of bytes

@@ -20,7 +20,8 @@ use lib.ListN.{length, take, drop, getD, set, replicate, length-append, take-app
 use lib.Arith.{digits-lt}
 use lib.Pow.{pow-add, shr-shr, high, low, mod-pow-add, mod-mod-pow}
 use lib.Pow as Pow
-use Rattle.bits.specs.Bits.{fieldBits, number, AllBelow}
+use Rattle.bits.specs.Bits.{fieldBits, number}
+use Rattle.bits.specs.Puts.{AllBelow}
 
 -- ---- lists whose elements are below a bound
 

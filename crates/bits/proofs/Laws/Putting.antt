@@ -18,7 +18,8 @@ use lib.ListN.{length, take, drop, getD, set, replicate, length-set}
 use lib.Seq.{take-append-seam, take-at, drop-at, take-add, take-take, take-append-le, take-append-add, set-split, set-out, drop-set-lt, length-take-le}
 use lib.Arith.{digits-lt}
 use lib.Pow.{pow-pos, pow-add, shr-lt, shl-shr}
-use Rattle.bits.specs.Bits.{fieldBits, number, bitsOf, packTo, packBits, field, putInByte, putBit, putBits, AllBelow}
+use Rattle.bits.specs.Bits.{fieldBits, number, bitsOf, packTo, packBits, field}
+use Rattle.bits.specs.Puts.{putInByte, putBit, putBits, AllBelow}
 use Rattle.bits.proofs.Laws.Numbers.{length-fieldBits, fieldBits-bits, fieldBits-zero, fieldBits-mod, fieldBits-join, take-fieldBits, number-fieldBits, below-append, below-drop, below-set, below-getD}
 use Rattle.bits.proofs.Laws.Bytes.{length-bitsOf, bitsOf-append, bitsOf-take, bitsOf-drop, byte-at, bitsOf-inj, bitsOf-packBits, packBits-bytes}
 

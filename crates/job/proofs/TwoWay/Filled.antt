@@ -12,9 +12,10 @@ use mathlib.Core.Logic.{_↔_}
 use mathlib.Core.List.{List, [], _∷_, _++_, flatMap}
 use lib.ListN.{length, drop, replicate, length-append, length-drop, length-replicate}
 use lib.Seq.{drop-append-seam}
-use Rattle.bits.specs.Bits.{number, bitsOf, packBits, AllBelow}
+use Rattle.bits.specs.Bits.{number, bitsOf, packBits, groupBits}
+use Rattle.bits.specs.Puts.{AllBelow}
 use Rattle.job.specs.Job.{Net, Job}
-use Rattle.job.specs.Packing.{groupBits, headBits, layerBits, vertexBits, obstacleBits, boxBits, netBits, jobBits}
+use Rattle.job.specs.Packing.{headBits, layerBits, vertexBits, obstacleBits, boxBits, netBits, jobBits}
 use Rattle.bits.proofs.Laws.{fieldBits-bits, below-append, below-drop, number-zero, bitsOf-packBits, packBits-only}
 use Rattle.job.proofs.TwoWay.Places.{Placed, placed}
 

@@ -14,13 +14,14 @@ use mathlib.Core.Logic.{_↔_, Iff·trans, Iff·and, Iff·rfl}
 use mathlib.Core.List.{List, [], _∷_, append-assoc, append-nil, flatMap}
 use lib.ListN.{length}
 use lib.Dec.{T, lit<}
-use Rattle.bits.specs.Bits.{field, whole, AllBelow}
+use Rattle.bits.specs.Bits.{field, whole, groupBits}
+use Rattle.bits.specs.Puts.{AllBelow}
 use Rattle.job.specs.Lists.{all, All}
 use Rattle.job.specs.Grid.{Grid, Vertex, inside, runHigh}
 use Rattle.job.specs.Job.{Layer, Obstacle, Box}
 use Rattle.job.specs.Reading.{good, layerAt, readLayer, viaRule, vertexAt, obstacleAt, covered, readObstacle, boxAt, goodSpan, goodBox, readBox}
 use Rattle.job.specs.Reading.{readMany}
-use Rattle.job.specs.Packing.{groupBits, layerBits, vertexBits, obstacleBits, boxBits}
+use Rattle.job.specs.Packing.{layerBits, vertexBits, obstacleBits, boxBits}
 use Rattle.job.specs.Good.{GoodGrid, GoodLayer, GoodLines, GoodObstacle}
 use Rattle.job.proofs.Tests.{and-holds, tests}
 use Rattle.job.proofs.Binds.{steps}

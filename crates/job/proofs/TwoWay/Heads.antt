@@ -8,10 +8,10 @@ use mathlib.Core.Path.{_≡_, refl}
 use mathlib.Core.Logic.{_↔_}
 use mathlib.Core.List.{List, [], _∷_}
 use lib.Dec.{T, lit<}
-use Rattle.bits.specs.Bits.{field, whole, AllBelow}
+use Rattle.bits.specs.Bits.{field, whole, groupBits}
+use Rattle.bits.specs.Puts.{AllBelow}
 use Rattle.job.specs.Grid.{Grid, vertices}
 use Rattle.job.specs.Reading.{good, Head, headAt, readHead}
-use Rattle.job.specs.Packing.{groupBits}
 use Rattle.job.specs.Good.{GoodGrid}
 use Rattle.job.proofs.Tests.{tests}
 use Rattle.job.proofs.Binds.{steps}

@@ -12,11 +12,13 @@ use mathlib.Core.Path.{_≡_, refl}
 use mathlib.Core.Logic.{_↔_, Iff·rfl}
 use mathlib.Core.List.{List, flatMap}
 use lib.ListN.{length}
-use Rattle.bits.specs.Bits.{AllBelow}
+use Rattle.bits.specs.Puts.{AllBelow}
 use Rattle.job.specs.Job.{Layer, Obstacle, Net, Job}
-use Rattle.job.specs.Reading.{Head, good, jobHead, readHead, readTail, readAfterHead, readBits}
+use Rattle.job.specs.Reading.{Head, good, readHead, readTail, readAfterHead, readBits}
+use Rattle.job.specs.Heads.{jobHead}
 use Rattle.job.specs.Reading.{obstaclesAt, netsAt, netsWidth}
-use Rattle.job.specs.Packing.{groupBits, headBits, layerBits, obstacleBits, netBits, jobBits}
+use Rattle.job.specs.Packing.{headBits, layerBits, obstacleBits, netBits, jobBits}
+use Rattle.bits.specs.Bits.{groupBits}
 use Rattle.job.specs.Good.{GoodJob}
 use Rattle.job.proofs.Tests.{tests}
 use Rattle.job.proofs.Binds.{bind-good, steps}

@@ -10,12 +10,13 @@ use mathlib.Core.Bool.{not}
 use mathlib.Core.List.{List, [], _∷_, _++_, flatMap}
 use lib.ListN.{length}
 use lib.Dec.{T, lit<}
-use Rattle.bits.specs.Bits.{whole, AllBelow}
+use Rattle.bits.specs.Bits.{whole, groupBits}
+use Rattle.bits.specs.Puts.{AllBelow}
 use Rattle.job.specs.Lists.{any, All}
 use Rattle.job.specs.Grid.{Grid, Vertex, same}
 use Rattle.job.specs.Job.{Obstacle, Net}
 use Rattle.job.specs.Reading.{good, readPin, readPins, readNetHead, readNet, readNets, netWidth}
-use Rattle.job.specs.Packing.{groupBits, vertexBits, boxBits, netBits}
+use Rattle.job.specs.Packing.{vertexBits, boxBits, netBits}
 use Rattle.job.specs.Good.{GoodGrid, GoodPin, GoodNet, allPins}
 use Rattle.job.proofs.Tests.{tests, crosswise}
 use Rattle.job.proofs.Binds.{steps}

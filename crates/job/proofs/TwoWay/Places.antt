@@ -16,8 +16,8 @@ use mathlib.Core.List.{List, [], _∷_, _++_, append-assoc}
 use lib.ListN.{length, drop, length-append, length-drop}
 use lib.Seq.{drop-drop, drop-append-seam}
 use lib.Dec.{T, leb→le, le→leb}
-use Rattle.bits.specs.Bits.{field, whole, fieldBits, AllBelow}
-use Rattle.job.specs.Packing.{groupBits}
+use Rattle.bits.specs.Bits.{field, whole, fieldBits, groupBits}
+use Rattle.bits.specs.Puts.{AllBelow}
 use Rattle.bits.proofs.Laws.{length-fieldBits, field-below, field-split, field-here}
 
 -- bits stand in B from a position on

@@ -14,7 +14,8 @@ use Rattle.job.specs.Lists.{All}
 use Rattle.job.specs.Grid.{Grid, Vertex}
 use Rattle.job.specs.Job.{Layer, Obstacle, Box, Net, Job}
 use Rattle.job.specs.Reading.{netWidth, netsWidth}
-use Rattle.job.specs.Packing.{groupBits, headBits, layerBits, vertexBits, obstacleBits, boxBits, netBits, jobBits, packJob}
+use Rattle.job.specs.Packing.{headBits, layerBits, vertexBits, obstacleBits, boxBits, netBits, jobBits, packJob}
+use Rattle.bits.specs.Bits.{groupBits}
 use Rattle.job.specs.Good.{GoodNet, GoodJob}
 use Rattle.bits.proofs.Laws.{length-fieldBits, length-packBits}
 use Rattle.job.proofs.TwoWay.Places.{widths, length-groupBits}

@@ -2,7 +2,7 @@
 use mathlib.Core.Path.{ap, _∙_}
 use native.Mathlib.Omega.{arith}
 use borrow.Author.Needs.{needs}
-use Rattle.bits.specs.Bits.{putBits}
+use Rattle.bits.specs.Puts.{putBits}
 use Rattle.joins.proofs.Putting.{put-next, put-last, start-bits}
 use Rattle.joins.proofs.record.put_start.Statement.{statement}
 use Rattle.joins.proofs.record.put_start.Tie as tie

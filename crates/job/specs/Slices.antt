@@ -1,0 +1,9 @@
+-- A slice that is lent, at exit.
+--     zeroed     its need made zero, and what lies past it as found
+use Prim.Native.Nat.{ℕ}
+use mathlib.Core.List.{List, _++_}
+use lib.ListN.{drop, replicate}
+
+-- with the first n made zero
+unfoldable pub zeroed : (n : ℕ) → List ℕ → List ℕ
+zeroed n xs = replicate n 0 ++ drop n xs
