@@ -11,13 +11,14 @@ use lib.ListN.{length, drop, replicate}
 use borrow.Author.Tests.{le-leb, lt-leb}
 use Rattle.job.specs.Grid.{vertices}
 use Rattle.job.specs.Job.{Job}
-use Rattle.job.specs.Reading.{Read, refused, good, _>>_, rule}
+use Rattle.job.specs.Reading.{Read, refused, good}
 use Rattle.rules.specs.Routings.{routing}
 use Rattle.plan.specs.Layout.{planOf}
 use Rattle.job.specs.Slices.{zeroed}
 use Rattle.plan.specs.Leaving.{replayedMap}
 use Rattle.router.specs.Room.{workNeed, readWithRoom}
-use Rattle.router.specs.Routing.{RoutingOutcome, refusedRouting, totalResult, routingLeaves, routed, routingResult, planLeft, routingRead, routingOf}
+use Rattle.router.specs.Routing.{RoutingOutcome, refusedRouting, totalResult, routed, routingRead, routingOf}
+use Rattle.router.specs.Held.{routingLeaves}
 use Rattle.router.specs.declared.routing_call.RoutingResult.{RoutingResult}
 
 module _ (bytes map work plan : List ℕ) where
@@ -46,12 +47,12 @@ module _ (bytes map work plan : List ℕ) where
 
   -- 14
   pub routes-short : (j : Job) → readWithRoom bytes map work ≡ good j → length plan < length (planOf j) → routingOf bytes map work plan ≡ leftShort j
-  unfolding routingOf routingRead routed rule _>>_ routingResult replayedMap planLeft
+  unfolding routingOf routingRead routed
   routes-short j room h = rw (room, lt-leb (length (planOf j)) (length plan) h) refl
 
   -- the plan fits
   pub routes-whole : (j : Job) → readWithRoom bytes map work ≡ good j → length (planOf j) ≤ length plan → routingOf bytes map work plan ≡ leftWhole j
-  unfolding routingOf routingRead routed rule _>>_ routingResult replayedMap planLeft
+  unfolding routingOf routingRead routed
   routes-whole j room h = rw (room, le-leb (length (planOf j)) (length plan) h) refl
 
   -- routing ends in one of them

@@ -1,28 +1,37 @@
 -- What routing's outcome promises, whatever the bytes and the slices.
 --     plan-within          the plan's bytes are in the slice
 --     room-routes          with slices that are long enough, the plan stands in the slice
+--     Returned             a claim about a plan that routing returned
 --     routed-cheapest      every record of the plan that stands in the slice is cheapest
+--     routed-by-ties       and is the join that the ties name
+--     short-bounded        a bound on the bytes that 14 asks for
 --     own-plan-replays     replay accepts that plan, with the same map and totals
 --     routing-parts        the outcome in its parts, as the call promises them
-use Prim.Native.Nat.{ℕ, _≤_}
+use Prim.Native.Nat.{ℕ, _+_, _*_, _/_, _≤_}
 use mathlib.Core.Path.{_≡_, refl, sym, ap, subst⁻¹, _∙_}
 use mathlib.Core.List.{List, _++_}
-use mathlib.Core.Bool.{Bool, true, false}
+use native.Mathlib.Nat.{mul-assoc}
 use native.Mathlib.Omega.{arith}
 use lib.ListN.{length, take, drop}
 use lib.Seq.{take-append-seam}
-use lib.Dec.{leb}
 use Rattle.job.specs.Grid.{vertices}
-use Rattle.job.specs.Job.{Job}
-use Rattle.job.specs.Reading.{refused, good, _>>=_, _>>_, rule, readJob}
-use Rattle.job.proofs.Binds.{good-good, steps}
+use Rattle.job.specs.Job.{Job, largestMinLength}
+use Rattle.job.specs.Good.{GoodJob}
+use Rattle.job.specs.Reading.{refused, good, readJob}
+use Rattle.job.proofs.Binds.{steps}
+use Rattle.job.proofs.Numbered.{Numbered, rule-numbered, then-numbered, bind-numbered, good-numbered, numbered-some, job-numbered}
 use Rattle.job.proofs.TwoWay.{rules-hold}
+use Rattle.rules.specs.Prices.{techOf}
+use Rattle.rules.specs.Joins.{places}
 use Rattle.plan.specs.Layout.{planOf}
-use Rattle.plan.specs.Claim.{Cheapest}
-use Rattle.plan.proofs.Routed.{routing-read, routing-plan-cheapest}
+use Rattle.plan.specs.Claim.{Cheapest, ByTies}
+use Rattle.plan.specs.Sizes.{mostJoins, mostBytes}
+use Rattle.plan.proofs.Routed.{routing-read, routing-plan-cheapest, routing-plan-by-ties}
+use Rattle.plan.proofs.Sizes.{plan-fits}
 use Rattle.router.specs.Room.{workNeed, roomFor, withRoom, readWithRoom}
-use Rattle.router.specs.Replay.{refusedReplay, replayResult, replayRead, replayOf}
-use Rattle.router.specs.Routing.{RoutingOutcome, refusedRouting, totalResult, routingLeaves, routingOf, withoutPlan, planIn}
+use Rattle.router.specs.Replay.{ReplayOutcome, refusedReplay, replayResult, replayRead, replayOf}
+use Rattle.router.specs.Routing.{RoutingOutcome, refusedRouting, totalResult, routingOf, planIn}
+use Rattle.router.specs.Held.{replayLeaves, routingLeaves}
 use Rattle.router.specs.declared.routing_call.RoutingResult.{RoutingResult}
 use Rattle.router.proofs.Ends.{Ends, early, short, whole, routes-ends}
 
@@ -31,15 +40,12 @@ room-read : (bytes map work : List ℕ) (j : Job) → readWithRoom bytes map wor
 unfolding readWithRoom withRoom
 room-read bytes map work j e = let (k, read, (tests, is)) = simp steps at e in rw is at read
 
--- 12 and 13 are not 0
-room-numbers : (map work : List ℕ) (j : Job) {p : ℕ} → withRoom map work j ≡ refused 0 p → ⊥
-unfolding withRoom roomFor rule _>>_
-room-numbers map work j = by (leb (vertices (j .grid)) (length map)) (leb (workNeed j) (length work))
-  where
-    by : (a b : Bool) {p : ℕ} → _>>_ (_>>_ (rule 12 (vertices (j .grid)) a) (rule 13 (workNeed j) b)) (good j) ≡ refused 0 p → ⊥
-    by true true e = let z : _≡_ {A = ℕ} 0 1 = cc in omega arith
-    by true false e = let z : _≡_ {A = ℕ} 13 0 = cc in omega arith
-    by false b e = let z : _≡_ {A = ℕ} 12 0 = cc in omega arith
+-- a refusal from 1 to 13 has a number
+pub room-numbered : (bytes map work : List ℕ) → Numbered (readWithRoom bytes map work)
+unfolding readWithRoom withRoom roomFor
+room-numbered bytes map work =
+    bind-numbered _ _ (job-numbered bytes) (λ j.
+    then-numbered _ _ (then-numbered _ _ (rule-numbered 12 _ _ (omega arith)) (rule-numbered 13 _ _ (omega arith))) (good-numbered j))
 
 -- the plan's bytes are in the slice
 pub plan-within : (bytes map work plan : List ℕ) → routingOf bytes map work plan .result .bytes ≤ length plan
@@ -66,21 +72,56 @@ room-routes bytes map work plan j has enough = by (routes-ends bytes map work pl
     by (short k room h is) = let same : k ≡ j = cc in absurd (omega (arith, ap (λ (x : Job). length (planOf x)) same))
     by (whole k room h is) = let same : k ≡ j = cc in rw (is, same) (refl, plan-stands j plan)
 
--- "for every job whose routing returned a plan": it is cheapest, as it stands in the slice
-pub routed-cheapest : (bytes map work plan : List ℕ) → routingOf bytes map work plan .result .refusal ≡ 0
-    → (j : Job) → readJob bytes ≡ good j → Cheapest j (planIn (routingOf bytes map work plan))
-unfolding readWithRoom _>>=_ refusedRouting totalResult
-routed-cheapest bytes map work plan done j read = by (routes-ends bytes map work plan) done
-  where
-    not-read : (n p : ℕ) → readWithRoom bytes map work ≡ refused n p → n ≡ 0 → withRoom map work j ≡ refused 0 p
-    not-read n p room none = rw none at (rw read at room)
+-- what a claim says of a plan that routing returned, as it stands in the slice: there is the job that was read
+abbrev pub Returned : (Claim : Job → List ℕ → Type 0) → (bytes plan : List ℕ) → Type 0
+Returned Claim bytes plan = (j : Job) × (readJob bytes ≡ good j) × Claim j plan
 
-    by : {o : RoutingOutcome} → Ends bytes map work plan o → o .result .refusal ≡ 0 → Cheapest j (planIn o)
-    by (early n p room is) none = absurd (room-numbers map work j (not-read n p room (rw is at none)))
-    by (short k room h is) none = let z : _≡_ {A = ℕ} 14 0 = rw is at none in absurd (omega arith)
-    by (whole k room h is) none =
-        let same : k ≡ j = good-good k j .0 (sym (room-read bytes map work k room) ∙ read) in
-        rw (is, same, plan-stands j plan) (routing-plan-cheapest (rules-hold bytes j read))
+-- "for every job whose routing returned a plan": what holds of every good job's plan holds of it
+routed-holds : (Claim : Job → List ℕ → Type 0) → ((j : Job) → GoodJob j → Claim j (planOf j)) → (bytes map work plan : List ℕ)
+    → routingOf bytes map work plan .result .refusal ≡ 0 → Returned Claim bytes (planIn (routingOf bytes map work plan))
+unfolding refusedRouting totalResult
+routed-holds Claim holds bytes map work plan done = by (routes-ends bytes map work plan) done
+  where
+    by : {o : RoutingOutcome} → Ends bytes map work plan o → o .result .refusal ≡ 0 → Returned Claim bytes (planIn o)
+    by (early n p room is) none = absurd (omega (arith, numbered-some (room-numbered bytes map work) room, rw is at none))
+    by (short j room h is) none = let z : _≡_ {A = ℕ} 14 0 = rw is at none in absurd (omega arith)
+    by (whole j room h is) none =
+        let read = room-read bytes map work j room in
+        (j, read, rw (is, plan-stands j plan) (holds j (rules-hold bytes j read)))
+
+-- it is cheapest
+pub routed-cheapest : (bytes map work plan : List ℕ) → routingOf bytes map work plan .result .refusal ≡ 0
+    → Returned Cheapest bytes (planIn (routingOf bytes map work plan))
+routed-cheapest = routed-holds Cheapest (λ j rules. routing-plan-cheapest rules)
+
+-- and holds the joins that the ties name
+pub routed-by-ties : (bytes map work plan : List ℕ) → routingOf bytes map work plan .result .refusal ≡ 0
+    → Returned ByTies bytes (planIn (routingOf bytes map work plan))
+routed-by-ties = routed-holds ByTies (λ j rules. routing-plan-by-ties rules)
+
+-- the bytes that 14 asks for are bounded by the job's pins and the work need
+pub short-bounded : (bytes : List ℕ) (j : Job) → readJob bytes ≡ good j → length (planOf j) ≤ (mostJoins (j .nets) * (workNeed j + 78) + 7) / 8
+unfolding mostBytes places techOf workNeed
+short-bounded bytes j read =
+    let longest = largestMinLength (j .lines) + 1 in
+    let v = vertices (j .grid) in
+    let both : 2 * (v * 2 * longest) ≡ v * 4 * longest =
+    let four : 2 * (v * 2) ≡ v * 4 = omega arith in
+    sym (mul-assoc 2 (v * 2) longest) ∙ ap (λ (x : ℕ). x * longest) four in
+    rw (← both) (plan-fits (rules-hold bytes j read))
+
+-- the outcome of replay that has the same numbers, map and work
+abbrev pub withoutPlan : RoutingOutcome → ReplayOutcome
+withoutPlan o =
+    let r = o .result in
+    replayLeaves (record {
+      refusal = r .refusal;
+      place = r .place;
+      cost = r .cost;
+      added = r .added;
+      penalties = r .penalties;
+      joined = r .joined;
+    }) (o .map) (o .work)
 
 -- the router's own plan, as it stands in the slice, replays to the same map and totals
 pub own-plan-replays : (bytes map work plan : List ℕ) → routingOf bytes map work plan .result .refusal ≡ 0
@@ -94,15 +135,16 @@ own-plan-replays bytes map work plan done = by (routes-ends bytes map work plan)
     by (whole j room h is) none =
         rw (is, plan-stands j plan, room, routing-read (rules-hold bytes j (room-read bytes map work j room))) refl
 
--- the outcome in its parts, with the promise about the plan
+-- the outcome in its parts, with the promises about the plan
 pub routing-parts : (bytes map work plan : List ℕ) {r : RoutingResult} {mapNow workNow planNow : List ℕ}
     → routingLeaves r mapNow workNow planNow ≡ routingOf bytes map work plan
     → (r ≡ routingOf bytes map work plan .result)
     × ((mapNow ≡ routingOf bytes map work plan .map)
     × ((workNow ≡ routingOf bytes map work plan .work)
     × ((planNow ≡ routingOf bytes map work plan .plan)
-    × (r .refusal ≡ 0 → (j : Job) → readJob bytes ≡ good j → Cheapest j (take (r .bytes) planNow)))))
-routing-parts bytes map work plan e = (
+    × ((r .refusal ≡ 0 → Returned Cheapest bytes (take (r .bytes) planNow))
+    × (r .refusal ≡ 0 → Returned ByTies bytes (take (r .bytes) planNow))))))
+routing-parts bytes map work plan {r} e = (
   λ i. e i .result,
   (
     λ i. e i .map,
@@ -110,9 +152,14 @@ routing-parts bytes map work plan e = (
       λ i. e i .work,
       (
         λ i. e i .plan,
-        λ none j read. subst⁻¹ (λ (o : RoutingOutcome). Cheapest j (planIn o)) e
-            (routed-cheapest bytes map work plan (sym (λ i. e i .result .refusal) ∙ none) j read),
+        (
+          λ none. subst⁻¹ (λ (o : RoutingOutcome). Returned Cheapest bytes (planIn o)) e (routed-cheapest bytes map work plan (done none)),
+          λ none. subst⁻¹ (λ (o : RoutingOutcome). Returned ByTies bytes (planIn o)) e (routed-by-ties bytes map work plan (done none)),
+        ),
       ),
     ),
   ),
 )
+  where
+    done : r .refusal ≡ 0 → routingOf bytes map work plan .result .refusal ≡ 0
+    done none = sym (λ i. e i .result .refusal) ∙ none

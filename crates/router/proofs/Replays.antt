@@ -15,8 +15,8 @@ use Rattle.plan.specs.Leaving.{replayedMap}
 use Rattle.replay.specs.declared.whole.Replayed.{Replayed}
 use Rattle.rules.specs.declared.totals.Totals.{Totals as TotalsStruct}
 use Rattle.router.specs.Room.{workNeed, readWithRoom}
-use Rattle.router.specs.Replay.{ReplayOutcome, refusedReplay, replayResult, replayLeaves, replayRead, replayOf}
-use Rattle.router.specs.Held.{IsResult}
+use Rattle.router.specs.Replay.{ReplayOutcome, refusedReplay, replayResult, replayRead, replayOf}
+use Rattle.router.specs.Held.{replayLeaves, IsResult}
 use Rattle.router.specs.declared.replay_call.ReplayResult.{ReplayResult}
 
 module _ (bytes plan map work : List ℕ) where

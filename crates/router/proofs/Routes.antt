@@ -37,8 +37,8 @@ use Rattle.plan.specs.Leaving.{replayedMap}
 use Rattle.search.specs.Charts.{Blank}
 use Rattle.routing.specs.Plans.{planBits}
 use Rattle.router.specs.Room.{workNeed, readWithRoom}
-use Rattle.router.specs.Routing.{refusedRouting, totalResult, routingLeaves, routingOf}
-use Rattle.router.specs.Held.{JobHeld}
+use Rattle.router.specs.Routing.{refusedRouting, totalResult, routingOf}
+use Rattle.router.specs.Held.{routingLeaves, JobHeld}
 use Rattle.router.specs.declared.held.Held.{Held}
 use Rattle.router.specs.declared.routing_call.RoutingResult.{RoutingResult}
 use Rattle.router.proofs.Holding.{Roomy, plan-asked}

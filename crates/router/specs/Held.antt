@@ -2,6 +2,7 @@
 --     heldOf, JobHeld       a job's layers, needs and counts
 --     roomAnswer            whether its slices are long enough
 --     IsResult              the result of a plan's answer
+--     replayLeaves, routingLeaves     an outcome, from a result and the slices at exit
 use Prim.Native.Nat.{ℕ, _+_, _*_}
 use mathlib.Core.Path.{_≡_}
 use mathlib.Core.List.{List}
@@ -22,11 +23,13 @@ use Rattle.rules.specs.Structs.{techBy, TechFits}
 use Rattle.replay.specs.Structs.{IsReplayed}
 use Rattle.replay.specs.declared.whole.Replayed.{Replayed}
 use Rattle.router.specs.Room.{workNeed}
-use Rattle.router.specs.Replay.{replayResult}
+use Rattle.router.specs.Replay.{ReplayOutcome, replayResult}
+use Rattle.router.specs.Routing.{RoutingOutcome}
 use Rattle.router.specs.declared.held.Held.{Held}
 use Rattle.router.specs.declared.held.Room.{Room}
 use Rattle.router.specs.declared.held.Room.the-variants.{Enough, Short}
 use Rattle.router.specs.declared.replay_call.ReplayResult.{ReplayResult}
+use Rattle.router.specs.declared.routing_call.RoutingResult.{RoutingResult}
 
 -- a good job has this head and these layer lines
 pub record HeadHolds (head : HeadStruct) (layers : Layers) : Type 0 where
@@ -65,3 +68,10 @@ roomAnswer (good u) = Enough
 -- the result of whatever the plan's answer is
 abbrev pub IsResult : Replayed → ReplayResult → Type 0
 IsResult replayed r = (x : Read Routed) → IsReplayed replayed x → r ≡ replayResult x
+
+-- an outcome, from a result and the slices at exit
+abbrev pub replayLeaves : ReplayResult → (map work : List ℕ) → ReplayOutcome
+replayLeaves r map work = record { result = r; map = map; work = work }
+
+abbrev pub routingLeaves : RoutingResult → (map work plan : List ℕ) → RoutingOutcome
+routingLeaves r map work plan = record { result = r; map = map; work = work; plan = plan }

@@ -1,7 +1,7 @@
 // Replay: the map and the totals of a plan, or its refusal.
 ghost use mathlib.Core.Path.{_≡_};
-ghost use Rattle.router.specs.Replay.{refusedReplay, replayLeaves, replayOf};
-ghost use Rattle.router.specs.Held.{JobHeld, IsResult};
+ghost use Rattle.router.specs.Replay.{refusedReplay, replayOf};
+ghost use Rattle.router.specs.Held.{replayLeaves, JobHeld, IsResult};
 use crate::held::Held;
 use crate::held::Room;
 use crate::held::held_of;

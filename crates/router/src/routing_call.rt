@@ -6,11 +6,11 @@ ghost use lib.ListN.{length, take};
 ghost use lib.Dec.{ltb};
 ghost use Rattle.job.specs.Job.{Job};
 ghost use Rattle.job.specs.Reading.{good, readJob};
-ghost use Rattle.plan.specs.Claim.{Cheapest};
+ghost use Rattle.plan.specs.Claim.{Cheapest, ByTies};
 ghost use Rattle.job.specs.Slices.{zeroed};
 ghost use Rattle.walker.specs.Structs.{totalsOf};
-ghost use Rattle.router.specs.Held.{JobHeld};
-ghost use Rattle.router.specs.Routing.{refusedRouting, totalResult, routingLeaves, routingOf};
+ghost use Rattle.router.specs.Held.{JobHeld, routingLeaves};
+ghost use Rattle.router.specs.Routing.{refusedRouting, totalResult, routingOf};
 use crate::held::Held;
 use crate::held::Room;
 use crate::held::held_of;
@@ -127,7 +127,9 @@ pub extern "C" fn maizespell_routing(
     ensures work { λ _. ⌜ now (work .exit) ≡ routingOf (now (bytes .entry)) (now (map .entry)) (now (work .entry)) (now (plan .entry)) .work ⌝ }
     ensures plan { λ _. ⌜ now (plan .exit) ≡ routingOf (now (bytes .entry)) (now (map .entry)) (now (work .entry)) (now (plan .entry)) .plan ⌝ }
     ensures cheapest { λ r. ⌜ (r .refusal ≡ 0
-        → (j : Job) → readJob (now (bytes .entry)) ≡ good j → Cheapest j (take (r .bytes) (now (plan .exit)))) ⌝ }
+        → (j : Job) × (readJob (now (bytes .entry)) ≡ good j) × Cheapest j (take (r .bytes) (now (plan .exit)))) ⌝ }
+    ensures ties { λ r. ⌜ (r .refusal ≡ 0
+        → (j : Job) × (readJob (now (bytes .entry)) ≡ good j) × ByTies j (take (r .bytes) (now (plan .exit)))) ⌝ }
 {
     let mut occupants = [0u8; 16384];
     let read = read_job(bytes, &mut occupants);
