@@ -3,9 +3,10 @@
 --     holds-sized, holds-eight           its grid is small, and its array of M has eight
 --     Numbers, holds-numbers             its numbers, within their limits
 --     job-held                           what is held is the job's
+--     bytes-below                        a slice of bytes holds bytes
 --     refused-room                       a job that is refused
 --     room-map, room-work, room-both     the three answers about slices
---     Roomy, has-room                    slices that are long enough
+--     Roomy, room-roomy, has-room        slices that are long enough
 --     room-short, room-enough            what these say of the job
 --     plan-asked                         what reading or routing a plan asks
 use Prim.Native.Nat.{ℕ, suc, _+_, _*_, _≤_, _<_}
@@ -13,8 +14,11 @@ use mathlib.Core.Path.{_≡_, refl, sym, ap, subst, _∙_}
 use mathlib.Core.List.{List, [], _∷_, _++_, map, append-assoc}
 use native.Mathlib.Nat.{mul-le-mul}
 use native.Mathlib.Omega.{arith}
+use mir.Syntax.{w8}
+use mir.Val.{Fits}
 use lib.ListN.{length, getD, length-append, length-map, List·getD-append}
 use borrow.Author.Tests.{le-leb, lt-leb}
+use Rattle.bits.specs.Puts.{AllBelow}
 use Rattle.job.specs.Grid.{vertices}
 use Rattle.job.specs.Job.{Layer, Job, largestMinLength}
 use Rattle.job.specs.Good.{allPins}
@@ -158,6 +162,12 @@ job-held {bytes} {occupants} {x} read occupied is =
 
 -- ---- slices
 
+-- numbers that fit a byte are below 256
+pub bytes-below : (xs : List ℕ) → ((i : ℕ) → Fits w8 (getD xs i 0)) → AllBelow 256 xs
+unfolding AllBelow
+bytes-below [] h = tt
+bytes-below (x ∷ xs) h = (omega (arith, h 0), bytes-below xs (λ i. h (suc i)))
+
 -- a job that is refused
 pub refused-room : (bytes map work : List ℕ) {n p : ℕ} → readJob bytes ≡ refused n p → readWithRoom bytes map work ≡ refused n p
 unfolding readWithRoom _>>=_
@@ -195,6 +205,13 @@ pub record Roomy (bytes : List ℕ) (j : Job) (map work : List ℕ) : Type 0 whe
   pub read : readWithRoom bytes map work ≡ good j
   pub vertices : vertices (j .grid) ≤ length map
   pub need : workNeed j ≤ length work
+
+-- a job that has room has slices that are long enough
+pub room-roomy : (bytes map work : List ℕ) (j : Job) → readWithRoom bytes map work ≡ good j → Roomy bytes j map work
+unfolding readWithRoom withRoom roomFor
+room-roomy bytes map work j e =
+    let (k, read, ((long, longer), is)) = simp (steps, tests) at e in
+    record { read = e; vertices = rw is at long; need = rw is at longer }
 
 -- a job whose slices are long enough has room
 pub has-room : (bytes map work : List ℕ) {j : Job} → readJob bytes ≡ good j → vertices (j .grid) ≤ length map → workNeed j ≤ length work

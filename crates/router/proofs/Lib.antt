@@ -4,8 +4,9 @@
 --     Replays         what replay answers
 --     Ends            routing's outcome, by the ways in which it ends
 --     Routes          what the code of routing asks and leaves
--- Theorems about routing's outcome:
---     Promises        its plan is in the slice, cheapest, and replays
+-- Theorems about the outcomes:
+--     Promises        its plan is in the slice, cheapest, by the ties, and replays
+--     Accepting       what replay accepts
 --     MarkedRoutes    the marked routes
 mod Holding
 mod Sizes
@@ -13,4 +14,5 @@ mod Replays
 mod Ends
 mod Routes
 pub mod Promises
+pub mod Accepting
 pub mod MarkedRoutes

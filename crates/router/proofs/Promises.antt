@@ -1,4 +1,6 @@
 -- What routing's outcome promises, whatever the bytes and the slices.
+--     room-read            a job that has room is the one that was read
+--     room-numbered        a refusal from 1 to 13 has a number
 --     plan-within          the plan's bytes are in the slice
 --     room-routes          with slices that are long enough, the plan stands in the slice
 --     Returned             a claim about a plan that routing returned
@@ -36,7 +38,7 @@ use Rattle.router.specs.declared.routing_call.RoutingResult.{RoutingResu
 use Rattle.router.proofs.Ends.{Ends, early, short, whole, routes-ends}
 
 -- a job that has room is the one that was read
-room-read : (bytes map work : List ℕ) (j : Job) → readWithRoom bytes map work ≡ good j → readJob bytes ≡ good j
+pub room-read : (bytes map work : List ℕ) (j : Job) → readWithRoom bytes map work ≡ good j → readJob bytes ≡ good j
 unfolding readWithRoom withRoom
 room-read bytes map work j e = let (k, read, (tests, is)) = simp steps at e in rw is at read
 

@@ -1,11 +1,13 @@
 -- Replay's answer from what reading answered.
 --     replay-refused                   a refusal from 1 to 13
 --     replay-read                      the plan's answer
---     replay-parts                     an outcome in its parts
+--     replay-parts                     an outcome in its parts, with what it accepts
 --     result-refused, result-good      the result of the plan's answer
 use Prim.Native.Nat.{ℕ}
 use mathlib.Core.Path.{_≡_, refl, sym, ap, _∙_}
+use mathlib.Core.Logic.{_↔_}
 use mathlib.Core.List.{List}
+use Rattle.bits.specs.Puts.{AllBelow}
 use Rattle.job.specs.Job.{Job}
 use Rattle.job.specs.Reading.{refused, good}
 use Rattle.job.specs.Slices.{zeroed}
@@ -15,9 +17,10 @@ use Rattle.plan.specs.Leaving.{replayedMap}
 use Rattle.replay.specs.declared.whole.Replayed.{Replayed}
 use Rattle.rules.specs.declared.totals.Totals.{Totals as TotalsStruct}
 use Rattle.router.specs.Room.{workNeed, readWithRoom}
-use Rattle.router.specs.Replay.{ReplayOutcome, refusedReplay, replayResult, replayRead, replayOf}
+use Rattle.router.specs.Replay.{refusedReplay, replayResult, replayRead, replayOf, Accepts}
 use Rattle.router.specs.Held.{replayLeaves, IsResult}
 use Rattle.router.specs.declared.replay_call.ReplayResult.{ReplayResult}
+use Rattle.router.proofs.Accepting.{replay-accepts}
 
 module _ (bytes plan map work : List ℕ) where
   -- a refusal from 1 to 13 leaves all as found
@@ -33,10 +36,16 @@ module _ (bytes plan map work : List ℕ) where
   unfolding replayOf replayRead
   replay-read e is laid zeros = rw (e, is, laid, zeros) refl
 
--- an outcome in its parts
-pub replay-parts : {r : ReplayResult} {mapNow workNow : List ℕ} {x : ReplayOutcome} → replayLeaves r mapNow workNow ≡ x
-    → (r ≡ x .result) × ((mapNow ≡ x .map) × (workNow ≡ x .work))
-replay-parts e = (λ i. e i .result, (λ i. e i .map, λ i. e i .work))
+-- an outcome in its parts, with what it accepts
+pub replay-parts : (bytes plan map work : List ℕ) → AllBelow 256 plan → {r : ReplayResult} {mapNow workNow : List ℕ}
+    → replayLeaves r mapNow workNow ≡ replayOf bytes plan map work
+    → (r ≡ replayOf bytes plan map work .result)
+    × ((mapNow ≡ replayOf bytes plan map work .map)
+    × ((workNow ≡ replayOf bytes plan map work .work) × ((r .refusal ≡ 0) ↔ Accepts bytes plan map work)))
+replay-parts bytes plan map work below {r} e =
+    let (accepted, accepts) = replay-accepts bytes plan map work below in
+    let number : r .refusal ≡ replayOf bytes plan map work .result .refusal = λ i. e i .result .refusal in
+    (λ i. e i .result, (λ i. e i .map, (λ i. e i .work, (λ none. accepted (sym number ∙ none), λ a. number ∙ accepts a))))
 
 -- ---- the plan's answer
 

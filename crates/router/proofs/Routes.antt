@@ -1,7 +1,6 @@
 -- What the code of routing asks and leaves.
 --     route-asked               what routing a job asks, once the need of work is zero
 --     end-short, end-enough     the test of the plan slice
---     bytes-below               a slice of bytes holds bytes
 --     route-ended               what the end leaves of what routing left is the outcome
 use Prim.Native.Nat.{ℕ, suc, _+_, _*_, _/_, _≤_, _<_}
 use mathlib.Core.Path.{_≡_, refl, sym, ap, subst, _∙_}
@@ -10,8 +9,6 @@ use mathlib.Core.Bool.{cond}
 use native.Mathlib.Decide.{decLt}
 use native.Mathlib.Omega.{arith}
 use native.Mathlib.Nat.{add-mul}
-use mir.Syntax.{w8}
-use mir.Val.{Fits}
 use lib.ListN.{length, getD, drop, replicate}
 use lib.Seq.{drop-at, drop-length}
 use lib.Dec.{ltb}
@@ -77,12 +74,6 @@ module _ {A : Type 0} {m n : ℕ} (short whole : A) where
   end-enough h = rw (le-ltb m n h) refl
 
 -- ---- the end
-
--- numbers that fit a byte are below 256
-pub bytes-below : (xs : List ℕ) → ((i : ℕ) → Fits w8 (getD xs i 0)) → AllBelow 256 xs
-unfolding AllBelow
-bytes-below [] h = tt
-bytes-below (x ∷ xs) h = (omega (arith, h 0), bytes-below xs (λ i. h (suc i)))
 
 module _ (bytes map work plan : List ℕ) (j : Job) (room : readWithRoom bytes map work ≡ good j) (below : AllBelow 256 plan) where
   -- the plan needs as many bytes as its bits fill

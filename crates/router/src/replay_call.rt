@@ -1,6 +1,7 @@
 // Replay: the map and the totals of a plan, or its refusal.
 ghost use mathlib.Core.Path.{_≡_};
-ghost use Rattle.router.specs.Replay.{refusedReplay, replayOf};
+ghost use mathlib.Core.Logic.{_↔_};
+ghost use Rattle.router.specs.Replay.{refusedReplay, replayOf, Accepts};
 ghost use Rattle.router.specs.Held.{replayLeaves, JobHeld, IsResult};
 use crate::held::Held;
 use crate::held::Room;
@@ -87,6 +88,7 @@ pub extern "C" fn maizespell_replay(
     ensures result { λ r. ⌜ r ≡ replayOf (now (bytes .entry)) (now (plan .entry)) (now (map .entry)) (now (work .entry)) .result ⌝ }
     ensures map { λ _. ⌜ now (map .exit) ≡ replayOf (now (bytes .entry)) (now (plan .entry)) (now (map .entry)) (now (work .entry)) .map ⌝ }
     ensures work { λ _. ⌜ now (work .exit) ≡ replayOf (now (bytes .entry)) (now (plan .entry)) (now (map .entry)) (now (work .entry)) .work ⌝ }
+    ensures accepts { λ r. ⌜ (r .refusal ≡ 0) ↔ Accepts (now (bytes .entry)) (now (plan .entry)) (now (map .entry)) (now (work .entry)) ⌝ }
 {
     let mut occupants = [0u8; 16384];
     let read = read_job(bytes, &mut occupants);

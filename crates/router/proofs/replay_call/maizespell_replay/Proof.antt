@@ -1,7 +1,7 @@
 -- `router::replay_call::maizespell_replay` meets its contract: the job is refused, or it is replayed.
 use borrow.Author.Needs.{needs}
 use Rattle.reader.proofs.Outcome.{read-at, read-refused, zeros-bare}
-use Rattle.router.proofs.Holding.{head-holds, job-held, refused-room}
+use Rattle.router.proofs.Holding.{head-holds, job-held, refused-room, bytes-below}
 use Rattle.router.proofs.Replays.{replay-refused, replay-parts}
 use Rattle.router.proofs.replay_call.maizespell_replay.Statement.{statement}
 use Rattle.router.proofs.replay_call.maizespell_replay.Tie as tie
@@ -28,7 +28,7 @@ replay-job-requires c κs =
 
 returns : tie.Need-returns
 returns c =
-    replay-parts (replay-refused _ _ _ _ (refused-room _ _ _ (read-refused _ _ (c .before .before .before .before .read-job .ensures .0) _ _ (c .before .before .reached .given .1)))
+    replay-parts _ _ _ _ (bytes-below _ (c .before .before .before .before .before .before .before .before .shared-slice-known2 .given)) (replay-refused _ _ _ _ (refused-room _ _ _ (read-refused _ _ (c .before .before .before .before .read-job .ensures .0) _ _ (c .before .before .reached .given .1)))
     (c .refused-replay .ensures))
 
 same-length : tie.Need-same-length
@@ -38,7 +38,7 @@ same-length-2 : tie.Need-same-length-2
 same-length-2 c = search needs
 
 returns-2 : tie.Need-returns-2
-returns-2 c = replay-parts (c .before .before .before .before .replay-job .ensures)
+returns-2 c = replay-parts _ _ _ _ (bytes-below _ (c .before .before .before .before .before .before .before .before .before .before .before .before .before .before .before .before .before .before .shared-slice-known2 .given)) (c .before .before .before .before .replay-job .ensures)
 
 pub maizespell-replay-spec : {M : Type 1} → statement M
 maizespell-replay-spec =

@@ -2,9 +2,9 @@
 use mathlib.Core.Path.{_∙_}
 use native.Mathlib.Omega.{arith}
 use borrow.Author.Needs.{needs}
-use Rattle.router.proofs.Holding.{room-short, room-enough}
+use Rattle.router.proofs.Holding.{room-short, room-enough, bytes-below}
 use Rattle.router.proofs.Ends.{routes-refused}
-use Rattle.router.proofs.Routes.{route-asked, bytes-below, route-ended}
+use Rattle.router.proofs.Routes.{route-asked, route-ended}
 use Rattle.router.proofs.routing_call.route_job.Statement.{statement}
 use Rattle.router.proofs.routing_call.route_job.Tie as tie
 
