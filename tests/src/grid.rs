@@ -15,7 +15,7 @@ pub struct Vertex {
     pub column: u32,
 }
 
-/// A vertex, in the order that the document writes it.
+/// A vertex, in the order that the specification writes it.
 pub fn vertex(layer: u32, row: u32, column: u32) -> Vertex {
     Vertex { layer, row, column }
 }

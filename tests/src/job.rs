@@ -6,7 +6,7 @@
 use crate::bits::BitWriter;
 use crate::grid::{Grid, Vertex};
 
-/// The edition that the document describes.
+/// The edition that the specification describes.
 pub const EDITION: u32 = 1;
 
 /// The closed price, which forbids what it prices.

@@ -1,5 +1,5 @@
 //! Checks the library's calls against a second implementation, written from the
-//! document alone.
+//! specification alone.
 //!
 //! - Jobs are data (`job`), made by hand (`marked`, `largest`) or at random
 //!   (`generate`), and plans are too (`plan`, `wander`); `damage` makes both bad.

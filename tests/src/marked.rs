@@ -1,4 +1,4 @@
-//! The twelve marked jobs, A to L, of "Routes by hand", in the document's words.
+//! The twelve marked jobs, A to L, of "Routes by hand", in the specification's words.
 
 pub mod by_hand;
 pub mod costs;

@@ -1,8 +1,8 @@
 //! The second reader: a job's bytes to its data, or the first broken rule.
 //!
-//! Groups are read in the document's order. A group that is not whole is
+//! Groups are read in the specification's order. A group that is not whole is
 //! refused by 2 before its rules are tried; then its rules come in the order of
-//! the document's table.
+//! the specification's table.
 
 use crate::bits::BitReader;
 use crate::grid::{vertex, Grid, Vertex, MOST_VERTICES};

@@ -1,4 +1,4 @@
-//! Moves, segments and prices, written from the document alone.
+//! Moves, segments and prices, written from the specification alone.
 //!
 //! A place is a vertex with the state of its segment. `View` holds what one net
 //! sees of the grid and of the other nets' metal; `View::step` makes a move from

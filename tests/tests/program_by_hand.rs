@@ -1,4 +1,4 @@
-//! The line that the second program writes: the document's own, each kind of line,
+//! The line that the second program writes: the specification's own, each kind of line,
 //! and the limits from both sides.
 
 use std::collections::BTreeMap;
@@ -6,7 +6,7 @@ use std::collections::BTreeMap;
 use maizespell_tests::marked;
 use maizespell_tests::program::{edges, generated, line};
 
-/// The document's line for job A.
+/// The specification's line for job A.
 const A: &str = "80 00 00 00 03 54 00 00 00 00 0C\n";
 
 fn lines() -> BTreeMap<String, String> {

@@ -54,7 +54,7 @@ fn generated_jobs_get_their_lines() {
     check_all("generated", &generated(JOBS, SEED));
 }
 
-/// The document's job and line, through a pipe that gives the bytes in two parts.
+/// The specification's job and line, through a pipe that gives the bytes in two parts.
 #[test]
 fn a_gets_the_line_of_the_document_through_a_pipe() {
     let mut command = Command::new(program());

@@ -11,7 +11,7 @@ use maizespell_tests::reader::Refusal;
 use maizespell_tests::replay::refused;
 use maizespell_tests::rules::moves::Move::{self, Down, High, Low, Up};
 
-/// A's plan, from the document: flag at bit 0, start at 1, count at 20, moves at
+/// A's plan, from the specification: flag at bit 0, start at 1, count at 20, moves at
 /// 40, 42 and 44, cost at 46, and two bits of fill from 86 on.
 const A: [u8; 11] = [
     0x80, 0x00, 0x00, 0x00, 0x03, 0x54, 0x00, 0x00, 0x00, 0x00, 0x0C,

@@ -1,4 +1,4 @@
-//! The second router on tiny grids: each join comes first in the document's order
+//! The second router on tiny grids: each join comes first in the specification's order
 //! among all routes of some moves, and what it leaves is what the joins make when
 //! they are judged as whole lists of moves.
 

@@ -1,5 +1,5 @@
 //! The second router on the twelve marked jobs, with the results of "Routes by
-//! hand", and what must not come out of the document's traps.
+//! hand", and what must not come out of the specification's traps.
 
 use maizespell_tests::grid::{vertex, Vertex};
 use maizespell_tests::job::{Job, CLOSED};

@@ -1,5 +1,5 @@
 //! The library's routing on tiny grids: no list of moves up to a length is cheaper
-//! than a record, or as cheap and earlier in the document's order, and there is none
+//! than a record, or as cheap and earlier in the specification's order, and there is none
 //! where the record says so.
 
 use maizespell_tests::brute::Checked;

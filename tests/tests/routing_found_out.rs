@@ -46,7 +46,7 @@ fn routed(result: &RoutingResult) -> bool {
     result.refusal == 0
 }
 
-/// The routers that must not pass by the document, and small faults of every
+/// The routers that must not pass by the specification, and small faults of every
 /// number and slice.
 const FAULTY: [(&str, Routing); 22] = [
     ("none for a reachable pin", |job, map, work, plan| {

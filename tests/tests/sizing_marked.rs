@@ -1,4 +1,4 @@
-//! The twelve marked jobs and the edges that the document names.
+//! The twelve marked jobs and the edges that the specification names.
 
 use maizespell_tests::compare::check;
 use maizespell_tests::job::Job;

@@ -1,4 +1,5 @@
--- The rules of a job, stated on the record: its numbers fit their fields, and document 01's rules hold.
+-- The rules of a job, stated on the record: its numbers fit their fields, and the specification's rules hold.
+-- Specification: section 1.
 use Prim.Native.Nat.{ℕ, _^_, _<_, _≤_}
 use mathlib.Core.Path.{_≡_}
 use mathlib.Core.List.{List, [], _∷_, _++_}

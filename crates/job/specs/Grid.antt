@@ -1,4 +1,5 @@
 -- The grid: vertices on layers, and the track on which a layer's steps run.
+-- Specification: section 1.1.
 use Prim.Native.Nat.{ℕ, zero, suc, _+_, _*_, _%_}
 use mathlib.Core.List.{List, [], _∷_}
 use mathlib.Core.Bool.{Bool, _&&_, cond}

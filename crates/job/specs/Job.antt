@@ -1,5 +1,6 @@
 -- The job: layers with their prices, obstacles, and nets with pins and guide boxes. Numbers are what they
 -- mean: a count that the job's bits hold less one is here the count.
+-- Specification: section 1.
 use Prim.Native.Nat.{ℕ, max}
 use mathlib.Core.List.{List, [], _∷_}
 use Rattle.job.specs.Grid.{Grid, Vertex}

@@ -1,4 +1,5 @@
 -- A job laid out as bytes, group by group.
+-- Specification: section 1.
 use Prim.Native.Nat.{ℕ, _-_}
 use mathlib.Core.List.{List, [], _∷_, _++_, flatMap}
 use lib.ListN.{length}

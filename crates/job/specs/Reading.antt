@@ -1,6 +1,7 @@
 -- Reading a job's bytes: a good job, or a refusal with its number and place. "The first broken rule in
 -- reading order is returned, within a group in table order"; a group that is not whole is refused by 2 at its
 -- first bit, before its rules.
+-- Specification: sections 1 and 7.
 --     Read, rule, wholeGroup     what reading answers, and the two ways in which it ends early
 --     readHead .. readTail       one function a group, each at the group's first bit
 --     readJob                    from any bytes

@@ -1,4 +1,5 @@
 -- A slice that is lent, at exit.
+-- Specification: section 6.1.
 --     zeroed     its need made zero, and what lies past it as found
 use Prim.Native.Nat.{ℕ}
 use mathlib.Core.List.{List, _++_}

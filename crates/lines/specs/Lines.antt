@@ -1,11 +1,12 @@
 -- The line that the program writes, as ASCII codes; a newline ends it.
+-- Specification: section 6.5.
 --     hexLine         a plan: each byte as two capital hexadecimal digits, a space between two bytes; for no
 --                     bytes an empty line
 --     refusedLine     `refused N at P`, both decimal
 --     tooLargeLine    `too large`
 -- `decimal` counts its recursion down by fuel: `decimal-small` and `decimal-more` (proofs/Decimals.antt) are
 -- the two equations to read it by, and `value-decimal` says that the digits are those of the number.
-use Prim.Native.Nat.{ℕ, zero, suc, _+_, _-_, _*_, _/_, _%_}
+use Prim.Native.Nat.{ℕ, zero, suc, _+_, _/_, _%_}
 use mathlib.Core.Bool.{cond}
 use mathlib.Core.List.{List, [], _∷_, _++_}
 use lib.Dec.{ltb}

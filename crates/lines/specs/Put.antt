@@ -3,7 +3,6 @@ use Prim.Native.Nat.{ℕ, _+_}
 use mathlib.Core.Path.{_≡_}
 use mathlib.Core.List.{List, _++_}
 use lib.ListN.{length, drop}
-use lib.Seq.{sets}
 
 -- a line is at the front of the slice, the rest is as found, and the answer is the line's length
 pub record Written (before after : List ℕ) (count : ℕ) (line : List ℕ) : Type 0 where

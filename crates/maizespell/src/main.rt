@@ -1,6 +1,7 @@
 // The program: reads a job from standard input and writes one line. It only reads and writes; all that
 // decides is in `line_of`. One byte more than a job may have is read, so that a longer job is seen to be too
-// long. It takes no arguments. What went wrong is told on standard error; a Rattle program has no exit status.
+// long. It takes no arguments. What went wrong is told on standard error: a Rattle program has no exit
+// status.
 mod line;
 
 use libc::STDERR_FILENO;

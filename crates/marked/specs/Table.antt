@@ -1,5 +1,6 @@
 -- The marked routes: twelve jobs by their bytes, what they hold, and the records that routing them writes;
 -- and the edges: four jobs by their bytes, and what reading them gives.
+-- Specification: section 9.
 --     plainLines, plainJob         the plain job with its sizes, M, prices and nets changed
 --     Row                          a job's bytes, the job, and its records net by net
 --     Right                        what is claimed of a row

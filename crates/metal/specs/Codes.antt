@@ -8,9 +8,9 @@
 --     withObstacles        obstacles put in
 use Prim.Native.Nat.{ℕ, zero, suc, _<_}
 use mathlib.Core.Path.{_≡_}
-use mathlib.Core.List.{List, [], _∷_, _++_}
+use mathlib.Core.List.{List, [], _∷_}
 use mathlib.Core.Bool.{cond}
-use lib.ListN.{length, getD, set, drop, replicate}
+use lib.ListN.{length, getD, set, drop}
 use lib.Dec.{eqb}
 use Rattle.job.specs.Grid.{Grid, vertices}
 use Rattle.rules.specs.Tracks.{Entered, outside, at, entered}

@@ -1,5 +1,5 @@
--- The code's reading with occupants comes to what the document's reading says: the same refusal, or the same
--- end with occupants of all obstacles and pins.
+-- The code's reading with occupants comes to what the specification's reading says: the same refusal, or the
+-- same end with occupants of all obstacles and pins.
 --     groups-refused, groups-good                 obstacles, nets and tail, read with occupants
 --     readRest, rest-of-job                       what they are read beside, as a part of a job's bits
 --     any-append                                  a test holds in two lists where it holds in one of them

@@ -1,11 +1,12 @@
 -- The least cost to a goal, and the route that has it.
+-- Specification: section 3.2.
 --     Cost, plus, least              a cost, or none
 --     leastOf                        the least of the first n costs
 --     dist                           the least cost in at most so many moves (0 at a goal)
 --     lowestKeeping                  the lowest move that keeps the table's cost
 --     follow                         the route that takes it at each place
--- `dist` is never to be evaluated: its cost explodes. A concrete table is shown to be a `Table` (Tables), and so
--- to be `dist`.
+-- `dist` is never to be evaluated: its cost explodes. A concrete table is shown to be a `Table` (Tables), and
+-- so to be `dist`.
 use Prim.Native.Nat.{ℕ, zero, suc, _+_, min}
 use mathlib.Core.List.{List, [], _∷_}
 use mathlib.Core.Bool.{Bool, true, false, cond}

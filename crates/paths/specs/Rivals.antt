@@ -1,4 +1,5 @@
 -- Walks to a goal.
+-- Specification: section 3.3.
 --     Rival     a list of moves, one or more, legal move by move, that enters a goal with its last move, and
 --               its cost
 --     Route     a rival that enters no goal before

@@ -1,4 +1,5 @@
 -- The cheapest of numbered starts, the lowest number first, and the join that is taken.
+-- Specification: section 3.2.
 --     Choice, best          the lowest number below n with the least finite cost, or none
 --     Starts, startCost     numbered starts of a system; the cost from each
 --     Join, Ahead           a start with moves and a cost; which of two joins is taken

@@ -1,4 +1,5 @@
 -- A system of priced moves: places, numbered moves from each, and goals.
+-- Specification: sections 2 and 3.3.
 --     Step         what a move leads to
 --     System       places, moves, goals
 --     Legal        a move that is not blocked

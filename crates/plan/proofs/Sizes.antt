@@ -1,22 +1,22 @@
 -- A plan of routing has at most so many bytes.
 --     plan-fits     the law
-use Prim.Native.Nat.{ℕ, suc, _+_, _-_, _*_, _/_, _≤_, _<_}
-use native.Mathlib.Nat.{add-mul, mul-le-mul-left, mul-comm}
+use Prim.Native.Nat.{ℕ, _+_, _-_, _*_, _≤_, _<_}
+use native.Mathlib.Nat.{add-mul}
 use native.Mathlib.Omega.{arith}
 use mathlib.Core.Path.{_≡_, refl, sym, ap, _∙_}
 use mathlib.Core.List.{List, [], _∷_, _++_, map, flatMap}
 use lib.ListN.{length, length-append, length-map}
 use Rattle.bits.proofs.Laws.{length-fieldBits, length-packBits}
 use Rattle.job.specs.Lists.{All}
-use Rattle.job.specs.Grid.{Grid, vertexNumber}
+use Rattle.job.specs.Grid.{vertexNumber}
 use Rattle.job.specs.Job.{Net, Job}
 use Rattle.job.specs.Good.{GoodJob}
-use Rattle.rules.specs.Views.{pinsOf, viewOf}
+use Rattle.rules.specs.Views.{pinsOf}
 use Rattle.rules.specs.Prices.{techOf}
-use Rattle.rules.specs.Joins.{Record, join, none, joinOf, places}
+use Rattle.rules.specs.Joins.{Record, join, none, places}
 use Rattle.rules.specs.Standings.{Standing, begun}
 use Rattle.rules.specs.Apart.{Stands}
-use Rattle.rules.specs.Routings.{Entry, routing}
+use Rattle.rules.specs.Routings.{Entry}
 use Rattle.rules.proofs.Techs.{good-tech}
 use Rattle.rules.proofs.Joins.{join-short}
 use Rattle.rules.proofs.Standing.{nets-apart}

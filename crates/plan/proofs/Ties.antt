@@ -2,7 +2,7 @@
 --     ties-only     the law
 use Prim.Native.Nat.{ℕ, zero, suc, _≤_}
 use native.Mathlib.Omega.{arith}
-use mathlib.Core.Path.{_≡_, refl, sym, ap, subst, _∙_}
+use mathlib.Core.Path.{_≡_, refl, sym, ap, _∙_}
 use mathlib.Core.List.{List, [], _∷_, _++_, map}
 use lib.ListN.{length}
 use Rattle.job.specs.Lists.{All}
@@ -11,8 +11,8 @@ use Rattle.job.specs.Good.{GoodJob}
 use Rattle.rules.specs.Views.{pinsOf, viewOf}
 use Rattle.rules.specs.Prices.{techOf}
 use Rattle.rules.specs.Walks.{Walked}
-use Rattle.rules.specs.Joins.{Record, join, none, IsJoin, joinOf}
-use Rattle.rules.specs.Standings.{Standing, metalAtFirst, begun, joinedBy}
+use Rattle.rules.specs.Joins.{Record, join, none, joinOf}
+use Rattle.rules.specs.Standings.{Standing, begun}
 use Rattle.rules.specs.Apart.{Stands}
 use Rattle.rules.specs.Routings.{Entry, Totals, noTotals, withJoin, Routed, withEntry, afterJoin, byRecord, routeNet, routeNets, routing}
 use Rattle.rules.proofs.Techs.{good-tech}

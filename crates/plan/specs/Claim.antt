@@ -1,5 +1,6 @@
 -- Demand 3 as one claim: no join of a plan has a cheaper rival, and where a record says none there is no
 -- rival. And the ties: which of the cheapest a plan holds.
+-- Specification: sections 4.3 and 3.2.
 --     RivalOf, CheapestRecord     of one record
 --     Cheapest                    of a job and a plan's bytes
 --     ByTies                      of both: each record is the join that the ties name

@@ -1,6 +1,7 @@
 -- Records as bits: "for each join bit 1, start vertex (3, 8, 8), move count 20, moves of 2 bits each, cost
 -- 40; bit 0 where there is none, which ends the net. A net with every pin joined writes no 0. Zero bits fill
 -- the last byte."
+-- Specification: section 4.1.
 use Prim.Native.Nat.{ℕ}
 use mathlib.Core.List.{List, [], _∷_, _++_, map, flatMap}
 use lib.ListN.{length}

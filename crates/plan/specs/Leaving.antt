@@ -1,4 +1,5 @@
 -- The map that a plan leaves.
+-- Specification: sections 5 and 7.1.
 --     replayedMap     the map of the plan's metal, or zero after a refusal
 use Prim.Native.Nat.{ℕ}
 use mathlib.Core.List.{List, _++_}

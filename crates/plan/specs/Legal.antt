@@ -1,6 +1,7 @@
 -- A legal plan, stated without reading: its records, net by net in order, are joins until every pin is
 -- joined, or end with one none; each join is legal and rightly priced against what the earlier ones make; and
 -- the plan's bytes are the records' bits with zero fill.
+-- Specification: section 4.2.
 use Prim.Native.Nat.{ℕ, suc, _^_, _<_}
 use mathlib.Core.Path.{_≡_}
 use mathlib.Core.List.{List, [], _∷_, _++_, map}

@@ -1,5 +1,6 @@
 -- Reading a plan against a job: its entries with the map's metal and the totals, or a refusal from 15 to 18
 -- with its place. "each move judged before the next is read"
+-- Specification: sections 4.2, 6.4 and 7.
 --     group            15 where a flag, a start with its count, a move or a cost is not whole
 --     readMoves        the moves of a join
 --     readRecord       a record

@@ -1,4 +1,5 @@
 -- A bound on a plan's bytes, for whoever lends the slice.
+-- Specification: section 6.3.
 --     mostJoins     how many joins a job may have: for each net its pins but the first
 --     mostBytes     how many bytes its plan has at most
 use Prim.Native.Nat.{ℕ, _+_, _-_, _*_, _/_}

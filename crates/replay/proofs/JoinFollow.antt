@@ -2,7 +2,7 @@
 --     JoinMeet       what the two readings have in common
 --     join-follow    the law
 use Prim.Native.Nat.{ℕ, suc, _+_, _*_, _≤_, _<_}
-use mathlib.Core.Path.{_≡_, refl, sym, subst, _∙_}
+use mathlib.Core.Path.{_≡_, refl, sym, _∙_}
 use mathlib.Core.List.{List, _++_, append-nil}
 use mathlib.Core.Bool.{Bool, true, false, _&&_}
 use lib.ListN.{length, getD}
@@ -30,7 +30,7 @@ use Rattle.tree.specs.Spots.{Spots}
 use Rattle.tree.proofs.Spots.{spot-tree}
 use Rattle.walker.specs.Entering.{Arrays, goneAt}
 use Rattle.walker.specs.Standing.{Stood}
-use Rattle.walker.proofs.Standing.{walkedBy, stood-begun, stood-joined, end-entered}
+use Rattle.walker.proofs.Standing.{stood-begun, stood-joined, end-entered}
 use Rattle.replay.specs.Following.{movesFrom, Start, readStart, readCost, Joined, costFrom, joinFrom}
 use Rattle.replay.proofs.Follow.{Follow, bothGood, then-assoc, follow-on, follow-read}
 use Rattle.replay.proofs.MovesFollow.{moves-follow}

@@ -12,7 +12,6 @@ use lib.ListN.{length}
 use lib.Dec.{eqb}
 use borrow.Author.Tests.{ne-eqb}
 use Rattle.bits.specs.Bits.{field}
-use Rattle.job.specs.Grid.{vertices}
 use Rattle.job.specs.Reading.{good, _>>=_, _>>_, rule}
 use Rattle.job.proofs.Binds.{then-good}
 use Rattle.rules.specs.Views.{View, member}

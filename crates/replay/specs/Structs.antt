@@ -1,13 +1,12 @@
 -- The forms in which the code answers, each made from what Following says.
 use Prim.Native.Nat.{ℕ, _-_, _≤_}
 use mathlib.Core.Path.{_≡_}
-use mathlib.Core.List.{List, _++_}
+use mathlib.Core.List.{List}
 use mathlib.Core.Bool.{_&&_, cond}
 use lib.Dec.{ltb, eqb}
 use Rattle.bits.specs.Bits.{field, whole, number}
 use lib.ListN.{length, drop}
-use Rattle.job.specs.Grid.{Grid, vertices}
-use Rattle.job.specs.Job.{Job}
+use Rattle.job.specs.Grid.{Grid}
 use Rattle.job.specs.Reading.{Read, refused, good, _>>=_, _>>_, rule}
 use Rattle.plan.specs.Reading.{Progress}
 use Rattle.metal.specs.Codes.{Codes, withObstacles}
@@ -24,7 +23,6 @@ use Rattle.walker.specs.Entering.{Gone}
 use Rattle.replay.specs.Following.{Came, came, stopped, Start, Joined, Ended}
 use Rattle.replay.specs.declared.moves.MovesRead.{MovesRead}
 use Rattle.rules.specs.Routings.{Routed}
-use Rattle.rules.specs.Maps.{mapOf}
 use Rattle.replay.specs.declared.net.Flag.{Flag}
 use Rattle.replay.specs.declared.net.Flag.the-variants as Flags
 use Rattle.replay.specs.declared.net.NetRead.{NetRead}

@@ -1,15 +1,14 @@
 -- What replay accepts.
---     replay-accepts     its refusal is 0 exactly where the job is good, the slices have room and the plan is legal
+--     replay-accepts     its refusal is 0 exactly where the job is good, the slices have room and the plan is
+--                        legal
 use Prim.Native.Nat.{ℕ}
-use mathlib.Core.Path.{_≡_, refl, sym, _∙_}
+use mathlib.Core.Path.{_≡_, refl}
 use mathlib.Core.Logic.{_↔_}
 use mathlib.Core.List.{List}
 use native.Mathlib.Omega.{arith}
 use Rattle.bits.specs.Puts.{AllBelow}
 use Rattle.job.specs.Job.{Job}
-use Rattle.job.specs.Reading.{Read, refused, good, readJob}
-use Rattle.job.proofs.Binds.{good-good, steps}
-use Rattle.job.proofs.Tests.{tests}
+use Rattle.job.specs.Reading.{Read, refused, good}
 use Rattle.job.proofs.Numbered.{numbered-some}
 use Rattle.job.proofs.TwoWay.{rules-hold}
 use Rattle.rules.specs.Routings.{Routed}
@@ -17,9 +16,9 @@ use Rattle.plan.specs.Reading.{readPlan}
 use Rattle.plan.specs.Legal.{LegalPlan}
 use Rattle.plan.proofs.TwoWay.{plan-two-way}
 use Rattle.plan.proofs.Numbered.{plan-numbered}
-use Rattle.router.specs.Room.{roomFor, withRoom, readWithRoom}
+use Rattle.router.specs.Room.{readWithRoom}
 use Rattle.router.specs.Replay.{refusedReplay, replayResult, replayRead, replayOf, Accepts}
-use Rattle.router.proofs.Holding.{Roomy, has-room, room-roomy}
+use Rattle.router.proofs.Holding.{has-room, room-roomy}
 use Rattle.router.proofs.Promises.{room-read, room-numbered}
 
 -- a plan's answer is 0 exactly where the plan is read as good

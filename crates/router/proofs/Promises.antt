@@ -19,7 +19,7 @@ use lib.Seq.{take-append-seam}
 use Rattle.job.specs.Grid.{vertices}
 use Rattle.job.specs.Job.{Job, largestMinLength}
 use Rattle.job.specs.Good.{GoodJob}
-use Rattle.job.specs.Reading.{refused, good, readJob}
+use Rattle.job.specs.Reading.{good, readJob}
 use Rattle.job.proofs.Binds.{steps}
 use Rattle.job.proofs.Numbered.{Numbered, rule-numbered, then-numbered, bind-numbered, good-numbered, numbered-some, job-numbered}
 use Rattle.job.proofs.TwoWay.{rules-hold}
@@ -74,7 +74,7 @@ room-routes bytes map work plan j has enough = by (routes-ends bytes map work pl
     by (short k room h is) = let same : k ≡ j = cc in absurd (omega (arith, ap (λ (x : Job). length (planOf x)) same))
     by (whole k room h is) = let same : k ≡ j = cc in rw (is, same) (refl, plan-stands j plan)
 
--- what a claim says of a plan that routing returned, as it stands in the slice: there is the job that was read
+-- a claim about a plan that routing returned, as it stands in the slice: there is the job that was read
 abbrev pub Returned : (Claim : Job → List ℕ → Type 0) → (bytes plan : List ℕ) → Type 0
 Returned Claim bytes plan = (j : Job) × (readJob bytes ≡ good j) × Claim j plan
 

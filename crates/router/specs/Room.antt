@@ -1,4 +1,5 @@
 -- A job and the slices that are lent for it: "12 and 13 come after the job".
+-- Specification: section 6.1.
 --     workNeed                  the work need
 --     roomFor                   whether the slices are long enough for the needs
 --     withRoom, readWithRoom    a job, or bytes, with slices

@@ -1,5 +1,6 @@
 -- The outcome of routing: "job, map, work, plan; returns plan bytes and the totals". The job's numbers come
 -- first, then 12 and 13, then routing, then 14.
+-- Specification: section 6.3.
 --     RoutingOutcome     the result, and the three slices at exit
 --     routed             what routing leaves of a job
 --     routingOf          from the bytes and the slices at entry

@@ -1,5 +1,6 @@
 -- The outcome of sizing: "the C++ host calls sizing with the job's bytes and gets the vertices and the work
 -- need, or a refusal from 1 to 11."
+-- Specification: section 6.2.
 use Prim.Native.Nat.{ℕ}
 use mathlib.Core.List.{List}
 use Rattle.job.specs.Grid.{vertices}

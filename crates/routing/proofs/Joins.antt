@@ -1,9 +1,9 @@
 -- One join of the net at hand: what it walks, and what it leaves in the arrays.
 --     JoinMade, join-made     the join of what stands
 --     route-all, route-more   the records of a net by whether a pin is unjoined
-use Prim.Native.Nat.{ℕ, zero, suc}
-use mathlib.Core.Path.{_≡_, refl, sym, ap, subst, _∙_}
-use mathlib.Core.List.{List, [], _∷_}
+use Prim.Native.Nat.{ℕ, suc}
+use mathlib.Core.Path.{_≡_, sym, ap, _∙_}
+use mathlib.Core.List.{List}
 use Rattle.job.specs.Grid.{vertices}
 use Rattle.job.specs.Job.{Job}
 use Rattle.job.specs.Good.{GoodJob}
@@ -14,7 +14,6 @@ use Rattle.rules.specs.Steps.{Made}
 use Rattle.rules.specs.Walks.{startAt, walked, walk}
 use Rattle.rules.specs.Standings.{Standing, joinedBy}
 use Rattle.rules.specs.Joins.{join, joinOf}
-use Rattle.rules.specs.Routings.{Totals, withNet, byRecord, routeNet}
 use Rattle.rules.proofs.Techs.{good-tech}
 use Rattle.rules.proofs.Places.{start-good}
 use Rattle.rules.proofs.Walks.{route-walk}
@@ -22,8 +21,8 @@ use Rattle.rules.proofs.Joins.{join-route}
 use Rattle.rules.proofs.Standing.{joined-apart}
 use Rattle.metal.specs.Codes.{Beyond}
 use Rattle.walker.specs.Entering.{Arrays, goneAt, entered, enterAll}
-use Rattle.walker.specs.Standing.{Stood, AtNet}
-use Rattle.walker.proofs.Standing.{walkedBy, stood-begun, stood-joined, end-entered, net-joined}
+use Rattle.walker.specs.Standing.{AtNet}
+use Rattle.walker.proofs.Standing.{stood-begun, stood-joined, end-entered, net-joined}
 use Rattle.walker.proofs.Entering.{enter-walk}
 
 -- a join of net k that was walked and entered

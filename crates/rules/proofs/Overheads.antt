@@ -1,6 +1,6 @@
 -- What holds of every overhead.
---     overhead-holds     a claim about overheads holds of what a segment owes where it holds of nothing, of the
---                        area penalty, of every extension and of a move that is forbidden
+--     overhead-holds     a claim holds of what a segment owes where it holds of nothing, of the area penalty,
+--                        of every extension and of a move that is forbidden
 use Prim.Native.Nat.{ℕ, _*_, _≤_}
 use mathlib.Core.Path.{_≡_, refl}
 use mathlib.Core.List.{[]}

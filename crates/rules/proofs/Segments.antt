@@ -4,17 +4,15 @@
 --     Led           the next place, and an overhead of at most 65,534
 --     move-led      what any legal move makes of the segment
 --     owed-fits     what a via owes is at most 65,534
-use Prim.Native.Nat.{ℕ, suc, _+_, _*_, _≤_, _<_}
+use Prim.Native.Nat.{ℕ, suc, _+_, _≤_, _<_}
 use mathlib.Core.Path.{_≡_, refl, sym, ap, subst}
-use mathlib.Core.List.{List}
 use mathlib.Core.Bool.{Bool, true, false, cond}
 use native.Mathlib.Nat.{mul-le-mul, le-trans}
 use native.Mathlib.Omega.{arith}
-use lib.ListN.{length}
-use lib.Dec.{eqb, leb}
-use borrow.Author.Tests.{leb-false, eqb-false}
+use lib.Dec.{leb}
+use borrow.Author.Tests.{leb-false}
 use Rattle.job.specs.Grid.{vertices}
-use Rattle.job.specs.Job.{Layer, largestMinLength, closedPrice}
+use Rattle.job.specs.Job.{largestMinLength}
 use Rattle.paths.specs.Systems.{blocked, to}
 use Rattle.paths.specs.Distances.{fin}
 use Rattle.paths.proofs.Costs.{inf-not-fin}

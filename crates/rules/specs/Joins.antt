@@ -1,4 +1,5 @@
 -- The cheapest join of a net in what stands.
+-- Specification: section 3.2.
 --     Record       a join with its start, moves and cost, or none
 --     IsJoin       the route that no route is ahead of; or none, and there is no route
 --     places       how many places there are

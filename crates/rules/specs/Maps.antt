@@ -1,5 +1,6 @@
 -- The map: "0 bare, 1 to 255 that net alone (first is 1; every pin counts, joined or not), 256 several nets,
 -- 257 obstacle".
+-- Specification: section 5.
 use Prim.Native.Nat.{ℕ, zero, suc}
 use mathlib.Core.List.{List, [], _∷_}
 use mathlib.Core.Bool.{cond}

@@ -1,4 +1,5 @@
 -- What a via move owes for the segment that it leaves.
+-- Specification: section 2.5.
 --     clearRun                 the clear vertices beyond one
 --     Overhead, overheadOf     what is owed, or that the move is forbidden
 use Prim.Native.Nat.{ℕ, zero, suc, _-_, _*_}

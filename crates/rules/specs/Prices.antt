@@ -1,4 +1,5 @@
 -- The price of entering a vertex, in its parts.
+-- Specification: section 2.3.
 --     Tech                     what a job says of its layers: the grid, the layer lines and the two penalties
 --     penalty                  a penalty where it applies; the closed one forbids
 --     base, guideAt, shortAt   the parts of the price of entering

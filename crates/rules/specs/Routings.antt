@@ -1,4 +1,5 @@
 -- Routing a whole job: the records of each net in order, the metal that stands at the end, and the totals.
+-- Specification: section 3.4.
 --     Entry                    a record, with its net and what stood before it
 --     Totals                   the running totals
 --     routeNet, routeNets      a net until all its pins are joined or there is no join; all nets

@@ -1,4 +1,5 @@
 -- Directions and the kinds of moves; the segment that is being made, and a place: a vertex with its segment.
+-- Specification: section 2.4.
 use Prim.Native.Nat.{ℕ, zero, suc}
 use mathlib.Core.Bool.{Bool, true, false, cond}
 use lib.Dec.{leb}

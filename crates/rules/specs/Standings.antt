@@ -1,16 +1,14 @@
 -- What stands while a net is joined: its tree, its unjoined pins, and the metal of every net.
+-- Specification: section 3.1.
 --     metalAtFirst     every pin is metal of its net from the start
 --     Standing         of the net at hand
 --     begun, joinedBy  before its first join, and after one
-use Prim.Native.Nat.{ℕ, zero, suc, _<_}
-use mathlib.Core.Path.{_≡_}
+use Prim.Native.Nat.{ℕ, zero, suc}
 use mathlib.Core.List.{List, [], _∷_, _++_, map}
 use mathlib.Core.Bool.{true, false}
 use lib.Dec.{eqb}
-use Rattle.job.specs.Grid.{vertices}
 use Rattle.job.specs.Job.{Job}
-use Rattle.rules.specs.Views.{member, pinsOf}
-use Rattle.rules.specs.Prices.{Tech}
+use Rattle.rules.specs.Views.{pinsOf}
 use Rattle.rules.specs.Steps.{Made}
 use Rattle.rules.specs.Walks.{verticesOf, laidOf}
 

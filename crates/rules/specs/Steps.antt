@@ -1,4 +1,5 @@
 -- One move from a place.
+-- Specification: section 2.
 --     Made, Stepped     what a move did; or that it is not legal
 --     step              the move by the rules
 --     priceOf, priced   its price; its price and the next place alone

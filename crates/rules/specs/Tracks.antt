@@ -1,4 +1,5 @@
 -- Vertices by number, and the vertex that a move enters.
+-- Specification: sections 1.1 and 2.1.
 --     layerOf, rowOf, columnOf, vertexBy     a vertex taken apart
 --     trackIndex, trackLength                where on its track a vertex lies, and how long the track is
 --     entered                                the vertex that a move enters, if it stays in the grid

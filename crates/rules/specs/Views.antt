@@ -1,4 +1,5 @@
 -- What one net sees at a vertex.
+-- Specification: section 2.2.
 --     View                       blocked, taken, inside the guide
 --     inBox, inGuide             the one box test, and the guide of a net
 --     member, othersHold         whether a vertex is among a net's, or among another net's

@@ -1,4 +1,5 @@
 -- Lists of moves that join a net.
+-- Specification: sections 3.2 and 3.3.
 --     system                 places and priced moves, with the unjoined pins as goals
 --     Rival, Route           a list of moves from the tree to an unjoined pin
 --     Walked, walk           where a list of moves leads, with what each did

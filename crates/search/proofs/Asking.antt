@@ -7,7 +7,7 @@
 --     next-left, next-small               what is left from the place that a move leads to; it is small
 --     start-asked, -made, -below, -left   the place where a join starts
 --     settled-here, -short, -fields       what is asked of a settled place
---     Led, led, led-not                   what a legal move from it leads to; one that is not legal is blocked
+--     Led, led, led-not                   what a legal move from it leads to; one not legal is blocked
 use Prim.Native.Nat.{ℕ, _+_, _^_, _≤_, _<_}
 use mathlib.Core.Path.{_≡_, refl, sym, ap, _∙_}
 use mathlib.Core.List.{List}

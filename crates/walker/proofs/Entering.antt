@@ -41,8 +41,8 @@ enter-kept {t} net made arrays lands =
     laid-beyond (vertices (t .grid)) net (made .laid ++ (w ∷ [])) (arrays .codes)
     (all-append (λ v. v < vertices (t .grid)) (made .laid) (w ∷ []) (lands .laid) (lands .place .vertex, tt))
 
--- moves after others are entered whole: the end and what they did are those of the walk, and the arrays stand for
--- what all of them leave
+-- moves after others are entered whole: the end and what they did are those of the walk, and the arrays stand
+-- for what all of them leave
 pub record EnteredBy (t : Tech) (view : View) (k : ℕ) (s : Standing) (ms : List ℕ) (gone : Gone) (arrays : Arrays) (last : Place) (made : List Made) : Type 0 where
   pub left : Arrays
   pub is : enterAll t view (suc k) ms gone arrays ≡ entered (record { place = last; made = gone .made ++ made }) left

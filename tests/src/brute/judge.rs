@@ -1,4 +1,4 @@
-//! A whole list of moves, judged by the document's sentences.
+//! A whole list of moves, judged by the specification's sentences.
 
 use super::Brute;
 use crate::grid::Vertex;

@@ -28,7 +28,7 @@ impl Checked {
         }
     }
 
-    /// Each join comes first in the document's order among all routes of some moves,
+    /// Each join comes first in the specification's order among all routes of some moves,
     /// there is none of them where the record says so, and map and totals are what
     /// the joins make.
     pub fn check(&mut self, job: &Job, routed: &Routed) {
