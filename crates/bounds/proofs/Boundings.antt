@@ -12,7 +12,7 @@ use Rattle.job.specs.Structs.{gridOf}
 use Rattle.job.specs.declared.groups.Box.{Box}
 use Rattle.job.specs.declared.groups.Layer.{Layer as LayerStruct}
 use Rattle.paths.specs.Systems.{to}
-use Rattle.paths.specs.Distances.{Cost, fin, inf, plus}
+use Rattle.paths.specs.Costs.{Cost, fin, inf, plus}
 use Rattle.rules.specs.Tracks.{layerOf, rowOf, columnOf}
 use Rattle.rules.specs.Views.{View}
 use Rattle.rules.specs.Segments.{Direction, low, high, Kind, along, kindOf, Place}

@@ -9,7 +9,8 @@ use mathlib.Core.Bool.{Bool, true, false, not, true≢false}
 use lib.ListN.{getD}
 use lib.Dec.{eqb}
 use Rattle.job.specs.Structs.{gridOf}
-use Rattle.paths.specs.Distances.{fin, lowestKeeping}
+use Rattle.paths.specs.Distances.{lowestKeeping}
+use Rattle.paths.specs.Costs.{fin}
 use Rattle.paths.specs.Leads.{onBest}
 use Rattle.rules.specs.Views.{View}
 use Rattle.rules.specs.Steps.{step, priced}

@@ -12,7 +12,8 @@ use lib.ListN.{getD}
 use lib.Dec.{eqb}
 use Rattle.job.specs.Grid.{vertices}
 use Rattle.paths.specs.Systems.{System}
-use Rattle.paths.specs.Distances.{Cost, fin, inf, lowestKeeping, keeps, follow}
+use Rattle.paths.specs.Distances.{lowestKeeping, keeps, follow}
+use Rattle.paths.specs.Costs.{Cost, fin, inf}
 use Rattle.paths.specs.Tables.{Table}
 use Rattle.paths.specs.Starts.{Choice, none, first, startCost}
 use Rattle.paths.specs.Foremost.{Chooses}
@@ -24,11 +25,12 @@ use Rattle.rules.specs.Views.{View, member}
 use Rattle.rules.specs.Segments.{Place}
 use Rattle.rules.specs.Prices.{Tech}
 use Rattle.rules.specs.Walks.{system, startAt}
-use Rattle.rules.specs.Joins.{Record, places, starts, joinFrom, joinBy, joinOf}
+use Rattle.rules.specs.Joins.{Record, places, joinOf}
+use Rattle.rules.specs.Tabled.{starts, joinFrom, joinBy}
 use Rattle.rules.specs.Places.{GoodPlace, GoodTech}
 use Rattle.rules.specs.Apart.{Apart}
 use Rattle.rules.proofs.Places.{start-good}
-use Rattle.rules.proofs.Certificates.{join-by-table}
+use Rattle.rules.proofs.Joins.{join-by-table}
 use Rattle.tree.specs.Spots.{Spots}
 use Rattle.tree.proofs.Spots.{spot-goal, spot-tree}
 use Rattle.bounds.specs.Bounds.{Bounding}
@@ -99,7 +101,7 @@ module _ (t : Tech) (view : View) (spots : List ℕ) (good : GoodTech t) where
     found-join =
         chosen-same _ (best-chooses (startCost (startsBy t view spots) D) (vertices (t .grid)))
         ∙ ap (joinFrom t view tree unjoined D) (best-same _ _ (vertices (t .grid)) cost-same)
-        ∙ join-by-table t view tree unjoined D good spots-table
+        ∙ join-by-table good view tree unjoined spots-table
 
   -- ---- the search from the tree
 

@@ -17,7 +17,8 @@ use native.Mathlib.Omega.{arith}
 use lib.ListN.{length}
 use Rattle.job.specs.Grid.{vertices}
 use Rattle.paths.specs.Systems.{blocked, to, System, Legal}
-use Rattle.paths.specs.Distances.{Cost, fin, keeps, lowestKeeping, follow}
+use Rattle.paths.specs.Distances.{keeps, lowestKeeping, follow}
+use Rattle.paths.specs.Costs.{Cost, fin}
 use Rattle.paths.specs.Tables.{Table}
 use Rattle.paths.specs.Leads.{OnBest, onBest, Leads, ends, goesOn}
 use Rattle.paths.proofs.Following.{follow-goal, follow-step, cost-keeps, kept}

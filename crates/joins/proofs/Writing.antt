@@ -18,7 +18,8 @@ use Rattle.bits.specs.Puts.{putBits}
 use Rattle.bits.proofs.Laws.{length-fieldBits, length-putBits, putBits-append}
 use Rattle.job.specs.Structs.{gridOf}
 use Rattle.paths.specs.Systems.{blocked, to, System}
-use Rattle.paths.specs.Distances.{Cost, lowestKeeping, follow}
+use Rattle.paths.specs.Distances.{lowestKeeping, follow}
+use Rattle.paths.specs.Costs.{Cost}
 use Rattle.paths.proofs.Following.{follow-goal, Onward, follow-onward}
 use Rattle.rules.specs.Views.{View}
 use Rattle.rules.specs.Segments.{Place}

@@ -8,7 +8,8 @@ use Prim.Native.Nat.{ℕ, _≤_, _<_}
 use mathlib.Core.Path.{_≡_}
 use mathlib.Core.List.{List}
 use Rattle.job.specs.Grid.{vertices}
-use Rattle.paths.specs.Distances.{Cost, dist, follow}
+use Rattle.paths.specs.Distances.{dist, follow}
+use Rattle.paths.specs.Costs.{Cost}
 use Rattle.paths.specs.Starts.{Choice, none, first, best, startCost}
 use Rattle.rules.specs.Views.{View}
 use Rattle.rules.specs.Segments.{Place}

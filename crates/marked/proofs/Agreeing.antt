@@ -14,7 +14,8 @@ use Rattle.rules.specs.Views.{pinsOf, viewOf}
 use Rattle.rules.specs.Prices.{techOf}
 use Rattle.rules.specs.Walks.{Walked, stuck, walked, startAt, walk}
 use Rattle.rules.specs.Standings.{Standing, metalAtFirst, begun, joinedBy}
-use Rattle.rules.specs.Joins.{Record, join, none, joinOf, joinBy}
+use Rattle.rules.specs.Joins.{Record, join, none, joinOf}
+use Rattle.rules.specs.Tabled.{joinBy}
 use Rattle.rules.specs.Places.{GoodTech}
 use Rattle.rules.specs.Routings.{Entry, Totals, noTotals, withJoin, Routed, withEntry, afterJoin, byRecord, routeNet, routeNets, routing}
 use Rattle.rules.proofs.Certificates.{tableCost, certified, certified-join}

@@ -11,7 +11,8 @@ use Rattle.rules.specs.Views.{pinsOf, viewOf}
 use Rattle.rules.specs.Prices.{techOf}
 use Rattle.rules.specs.Walks.{Walked, stuck, walked, startAt, walk}
 use Rattle.rules.specs.Standings.{Standing, metalAtFirst, begun, joinedBy}
-use Rattle.rules.specs.Joins.{Record, join, none, joinBy}
+use Rattle.rules.specs.Joins.{Record, join, none}
+use Rattle.rules.specs.Tabled.{joinBy}
 use Rattle.rules.proofs.Certificates.{tableCost, certified}
 
 -- a row for each vertex, and in it an entry for each segment

@@ -21,7 +21,8 @@ use Rattle.rules.specs.Overheads.{clear, toward, onFrom, clearRun, otherwise, l
 use Rattle.rules.specs.Steps.{leaving, stepping, bySegment, ifPriced, into, step, priced}
 use Rattle.rules.specs.Walks.{startAt, after, goOn, walk}
 use Rattle.rules.specs.Standings.{metalAtFirst, begun, without, more, joinedBy}
-use Rattle.rules.specs.Joins.{places, joinFrom, joinBy}
+use Rattle.rules.specs.Joins.{places}
+use Rattle.rules.specs.Tabled.{joinFrom, joinBy}
 use Rattle.rules.specs.Places.{segmentCode, entryCost}
 use Rattle.rules.proofs.Certificates.{tableCost, withinTest, settledTest, supportedTest, movesTest, placeTest, allBelow, allSegments, certified}
 use Rattle.plan.specs.Layout.{recordBits, planBytes}

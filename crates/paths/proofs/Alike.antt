@@ -7,7 +7,8 @@ use mathlib.Core.Path.{_≡_, refl, sym, ap, _∙_}
 use mathlib.Core.Bool.{Bool, true, false}
 use Rattle.paths.specs.Systems.{Step, blocked, to, System}
 use Rattle.paths.specs.Tables.{Lawful, Table}
-use Rattle.paths.specs.Distances.{Cost, fin, inf, plus, through, isCost, keeps, lowestKeeping, follow}
+use Rattle.paths.specs.Distances.{through, isCost, keeps, lowestKeeping, follow}
+use Rattle.paths.specs.Costs.{Cost, fin, inf, plus}
 use Rattle.paths.proofs.Lowest.{lowest-same}
 use Rattle.paths.proofs.Following.{follow-none, follow-goal, follow-inf, follow-step, kept}
 

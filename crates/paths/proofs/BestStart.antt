@@ -8,7 +8,7 @@ use mathlib.Core.Path.{_≡_, refl, sym, _∙_}
 use mathlib.Core.Bool.{Bool, true, false}
 use Rattle.paths.specs.Systems.{System}
 use Rattle.paths.specs.Tables.{Lawful, within, Table}
-use Rattle.paths.specs.Distances.{Cost, fin, inf}
+use Rattle.paths.specs.Costs.{Cost, fin, inf}
 use Rattle.paths.specs.Starts.{none, first, best, Starts, startCost}
 use Rattle.paths.specs.Foremost.{Chosen, GoodStarts}
 use Rattle.paths.specs.Forward.{LowerBound, Forward}

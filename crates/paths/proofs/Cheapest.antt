@@ -45,7 +45,8 @@ use mathlib.Core.List.{List}
 use Rattle.paths.specs.Systems.{System}
 use Rattle.paths.specs.Tables.{Lawful, within, Table}
 use Rattle.paths.specs.Rivals.{Rival}
-use Rattle.paths.specs.Distances.{Cost, fin, inf, dist, follow}
+use Rattle.paths.specs.Distances.{dist, follow}
+use Rattle.paths.specs.Costs.{Cost, fin, inf}
 pub use Rattle.paths.proofs.Routes.{route-rival, route-cost}
 pub use Rattle.paths.proofs.Reach.{dist-bounds, dist-reached}
 pub use Rattle.paths.proofs.Loops.{shorter}

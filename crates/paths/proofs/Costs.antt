@@ -13,7 +13,8 @@ use native.Mathlib.Decide.{ℕ-discrete, decLe}
 use mathlib.Core.Path.{_≡_, refl, sym, ap, _∙_}
 use mathlib.Core.Logic.{_⊎_, inl, inr}
 use Rattle.paths.specs.Systems.{Step, blocked, to}
-use Rattle.paths.specs.Distances.{Cost, fin, inf, plus, least, leastOf, through}
+use Rattle.paths.specs.Distances.{least, leastOf, through}
+use Rattle.paths.specs.Costs.{Cost, fin, inf, plus}
 use Rattle.paths.specs.Tables.{within}
 
 -- no cost is both finite and none

@@ -15,7 +15,8 @@ use lib.Seq.{take-all}
 use Rattle.paths.specs.Systems.{System, Legal}
 use Rattle.paths.specs.Tables.{Lawful, Table}
 use Rattle.paths.specs.Rivals.{Route, Before, ends, lower, later}
-use Rattle.paths.specs.Distances.{Cost, fin, inf, lowestKeeping, follow}
+use Rattle.paths.specs.Distances.{lowestKeeping, follow}
+use Rattle.paths.specs.Costs.{Cost, fin, inf}
 use Rattle.paths.proofs.Costs.{within-fin}
 use Rattle.paths.proofs.Routes.{route-rival, Rest, done, more, rest-more}
 use Rattle.paths.proofs.Loops.{cheapest-short}

@@ -12,7 +12,8 @@ use mathlib.Core.List.{[], _∷_}
 use mathlib.Core.Bool.{Bool, true, false}
 use Rattle.paths.specs.Systems.{to, System, Legal}
 use Rattle.paths.specs.Tables.{Lawful, Table}
-use Rattle.paths.specs.Distances.{Cost, fin, keeps, lowestKeeping, follow, onward}
+use Rattle.paths.specs.Distances.{keeps, lowestKeeping, follow, onward}
+use Rattle.paths.specs.Costs.{Cost, fin}
 use Rattle.paths.specs.Starts.{Starts}
 use Rattle.paths.specs.Foremost.{GoodStarts}
 use Rattle.paths.specs.Forward.{LowerBound, Forward}

@@ -20,7 +20,8 @@ use borrow.Author.Tests.{eqb-true, eq-eqb}
 use lib.ListN.{length, take}
 use Rattle.paths.specs.Systems.{Step, blocked, to, System, Legal}
 use Rattle.paths.specs.Tables.{Lawful, Table}
-use Rattle.paths.specs.Distances.{Cost, fin, inf, through, isCost, onward, keeps, lowestKeeping, moveOn, follow}
+use Rattle.paths.specs.Distances.{through, isCost, onward, keeps, lowestKeeping, moveOn, follow}
+use Rattle.paths.specs.Costs.{Cost, fin, inf}
 use Rattle.paths.proofs.Costs.{within-only, through-fin}
 use Rattle.paths.proofs.Routes.{Rest, done, more, rest-route}
 use Rattle.paths.proofs.Lowest.{lowest-passes}

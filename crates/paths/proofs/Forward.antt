@@ -15,7 +15,7 @@ use mathlib.Core.Bool.{Bool, true, false}
 use Rattle.paths.specs.Systems.{System}
 use Rattle.paths.specs.Tables.{Lawful, within}
 use Rattle.paths.specs.Rivals.{Rival, Route}
-use Rattle.paths.specs.Distances.{Cost, fin, inf}
+use Rattle.paths.specs.Costs.{Cost, fin, inf}
 use Rattle.paths.specs.Starts.{Starts}
 use Rattle.paths.specs.Foremost.{GoodStarts, Joins}
 use Rattle.paths.specs.Forward.{From, LowerBound, Enters, Forward}

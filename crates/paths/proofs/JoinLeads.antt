@@ -8,7 +8,7 @@ use mathlib.Core.Path.{_≡_, refl, sym, ap, subst}
 use mathlib.Core.Bool.{Bool, true, false, true≢false}
 use Rattle.paths.specs.Systems.{System}
 use Rattle.paths.specs.Tables.{Lawful, Table}
-use Rattle.paths.specs.Distances.{Cost, fin}
+use Rattle.paths.specs.Costs.{Cost, fin}
 use Rattle.paths.specs.Starts.{first, best, Starts, startCost}
 use Rattle.paths.specs.Foremost.{GoodStarts, Foremost, joinFrom}
 use Rattle.paths.specs.Forward.{LowerBound, Forward}

@@ -17,11 +17,11 @@ use mathlib.Core.List.{List}
 use mathlib.Core.Bool.{Bool, true, false}
 use Rattle.paths.specs.Systems.{System}
 use Rattle.paths.specs.Tables.{Lawful, Table}
-use Rattle.paths.specs.Rivals.{Rival, Before}
-use Rattle.paths.specs.Distances.{Cost, fin, dist, follow}
+use Rattle.paths.specs.Rivals.{Rival, Before, Join, Ahead, byCost, byStart, byMoves}
+use Rattle.paths.specs.Distances.{dist, follow}
+use Rattle.paths.specs.Costs.{Cost, fin}
 use Rattle.paths.specs.Starts.{Choice, none, first, best, Starts, startCost}
 use Rattle.paths.specs.Foremost.{Chooses, GoodStarts, Joins, Foremost, joinFrom}
-use Rattle.paths.specs.Starts.{Join, Ahead, byCost, byStart, byMoves}
 use Rattle.paths.proofs.Costs.{inf-not-fin, within-trans, within-only}
 use Rattle.paths.proofs.Routes.{route-rival}
 use Rattle.paths.proofs.Tables.{table-bounds, table-dist}

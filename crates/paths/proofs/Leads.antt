@@ -11,7 +11,7 @@ use mathlib.Core.Bool.{Bool, true, false, true≢false}
 use borrow.Author.Tests.{eqb-true, eq-eqb}
 use Rattle.paths.specs.Systems.{Step, blocked, to, System, Legal}
 use Rattle.paths.specs.Tables.{Lawful, Table}
-use Rattle.paths.specs.Distances.{Cost, fin}
+use Rattle.paths.specs.Costs.{Cost, fin}
 use Rattle.paths.specs.Starts.{Starts}
 use Rattle.paths.specs.Foremost.{GoodStarts}
 use Rattle.paths.specs.Forward.{LowerBound, Forward}

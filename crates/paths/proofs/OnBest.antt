@@ -12,7 +12,8 @@ use mathlib.Core.List.{List}
 use Rattle.paths.specs.Systems.{System, Legal}
 use Rattle.paths.specs.Tables.{Lawful, within, Table}
 use Rattle.paths.specs.Rivals.{Route}
-use Rattle.paths.specs.Distances.{Cost, fin, through, keeps, lowestKeeping}
+use Rattle.paths.specs.Distances.{through, keeps, lowestKeeping}
+use Rattle.paths.specs.Costs.{Cost, fin}
 use Rattle.paths.specs.Starts.{Starts}
 use Rattle.paths.specs.Foremost.{GoodStarts}
 use Rattle.paths.specs.Forward.{From, LowerBound, Forward}

@@ -10,8 +10,7 @@ use native.Mathlib.Decide.{ℕ-discrete, decLt}
 use mathlib.Core.Path.{_≡_, refl, sym, _∙_}
 use mathlib.Core.Logic.{_⊎_, inl, inr}
 use mathlib.Core.List.{List, [], _∷_}
-use Rattle.paths.specs.Rivals.{Before, ends, lower, later}
-use Rattle.paths.specs.Starts.{Join, Ahead, byCost, byStart, byMoves}
+use Rattle.paths.specs.Rivals.{Before, ends, lower, later, Join, Ahead, byCost, byStart, byMoves}
 
 -- a list that comes before another is not that one
 before-differ : {ms ns : List ℕ} → Before ms ns → ms ≡ ns → ⊥

@@ -12,7 +12,8 @@ use mathlib.Core.Bool.{Bool, true, false}
 use lib.ListN.{length}
 use Rattle.paths.specs.Systems.{System, Legal}
 use Rattle.paths.specs.Rivals.{Rival, Route}
-use Rattle.paths.specs.Distances.{Cost, fin, inf, leastOf, through, dist}
+use Rattle.paths.specs.Distances.{leastOf, through, dist}
+use Rattle.paths.specs.Costs.{Cost, fin, inf}
 use Rattle.paths.specs.Tables.{within}
 use Rattle.paths.proofs.Costs.{inf-not-fin, within-trans, plus-within, through-fin, leastOf-below, leastOf-one}
 use Rattle.paths.proofs.Routes.{Rest, done, more, rest-route, rest-more}

@@ -13,7 +13,8 @@ use mathlib.Core.Bool.{Bool, true, false}
 use Rattle.paths.specs.Systems.{Step, blocked, to, System, Legal}
 use Rattle.paths.specs.Tables.{Lawful, within, Table}
 use Rattle.paths.specs.Rivals.{Rival, Route}
-use Rattle.paths.specs.Distances.{Cost, fin, inf, plus, through, dist, follow}
+use Rattle.paths.specs.Distances.{through, dist, follow}
+use Rattle.paths.specs.Costs.{Cost, fin, inf, plus}
 use Rattle.paths.proofs.Costs.{within-trans, within-only, within-inf, plus-within}
 use Rattle.paths.proofs.Routes.{route-rival, Rest, done, more, rest-route, rest-more}
 use Rattle.paths.proofs.Reach.{dist-goal, dist-bounds, dist-rest}

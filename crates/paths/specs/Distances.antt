@@ -1,25 +1,17 @@
 -- The least cost to a goal, and the route that has it.
--- Specification: section 3.2.
---     Cost, plus, least              a cost, or none
+--     least                          the lesser of two costs
 --     leastOf                        the least of the first n costs
 --     dist                           the least cost in at most so many moves (0 at a goal)
 --     lowestKeeping                  the lowest move that keeps the table's cost
 --     follow                         the route that takes it at each place
 -- `dist` is never to be evaluated: its cost explodes. A concrete table is shown to be a `Table` (Tables), and
 -- so to be `dist`.
-use Prim.Native.Nat.{ℕ, zero, suc, _+_, min}
+use Prim.Native.Nat.{ℕ, zero, suc, min}
 use mathlib.Core.List.{List, [], _∷_}
 use mathlib.Core.Bool.{Bool, true, false, cond}
 use lib.Dec.{eqb}
 use Rattle.paths.specs.Systems.{Step, blocked, to, System}
-
-pub data Cost : Type 0 where
-  fin : ℕ → Cost
-  inf : Cost
-
-abbrev pub plus : ℕ → Cost → Cost
-plus p (fin n) = fin (p + n)
-plus p inf = inf
+use Rattle.paths.specs.Costs.{Cost, fin, inf, plus}
 
 unfoldable pub least : Cost → Cost → Cost
 least (fin m) (fin n) = fin (min m n)

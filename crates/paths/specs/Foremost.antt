@@ -7,10 +7,11 @@ use Prim.Native.Nat.{ℕ, _<_}
 use mathlib.Core.Path.{_≡_}
 use mathlib.Core.Bool.{true, false}
 use Rattle.paths.specs.Systems.{System}
-use Rattle.paths.specs.Rivals.{Route}
-use Rattle.paths.specs.Distances.{Cost, fin, inf, follow}
+use Rattle.paths.specs.Rivals.{Route, Join, Ahead}
+use Rattle.paths.specs.Distances.{follow}
+use Rattle.paths.specs.Costs.{Cost, fin, inf}
 use Rattle.paths.specs.Tables.{within}
-use Rattle.paths.specs.Starts.{Choice, none, first, Starts, Join, Ahead}
+use Rattle.paths.specs.Starts.{Choice, none, first, Starts}
 
 -- number i below n has cost c, no other has less, and no lower one as little
 pub record Chosen (E : ℕ → Cost) (n i c : ℕ) : Type 0 where

@@ -14,7 +14,7 @@ use mathlib.Core.List.{List}
 use mathlib.Core.Bool.{true, false}
 use Rattle.paths.specs.Systems.{System, Legal}
 use Rattle.paths.specs.Rivals.{Rival}
-use Rattle.paths.specs.Distances.{Cost, fin}
+use Rattle.paths.specs.Costs.{Cost, fin}
 use Rattle.paths.specs.Tables.{within}
 use Rattle.paths.specs.Starts.{Starts}
 

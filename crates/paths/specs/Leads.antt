@@ -16,8 +16,10 @@ use mathlib.Core.List.{List, []}
 use mathlib.Core.Bool.{Bool, true, false, cond}
 use lib.Dec.{eqb}
 use Rattle.paths.specs.Systems.{Step, blocked, to, System, Legal}
-use Rattle.paths.specs.Distances.{Cost, fin, inf, isCost, lowestFrom, onward}
-use Rattle.paths.specs.Starts.{Starts, Join}
+use Rattle.paths.specs.Distances.{isCost, lowestFrom, onward}
+use Rattle.paths.specs.Costs.{Cost, fin, inf}
+use Rattle.paths.specs.Starts.{Starts}
+use Rattle.paths.specs.Rivals.{Join}
 
 module _ (S : System) (E : S .Place → Cost) (C : ℕ) where
   -- p is on a cheapest join, D being the least cost to go: to p it costs e, and from there d

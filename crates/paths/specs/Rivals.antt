@@ -1,9 +1,10 @@
 -- Walks to a goal.
--- Specification: section 3.3.
+-- Specification: sections 3.2 and 3.3.
 --     Rival     a list of moves, one or more, legal move by move, that enters a goal with its last move, and
 --               its cost
 --     Route     a rival that enters no goal before
 --     Before    the order of move lists: the one that comes first by move number
+--     Join, Ahead     a start with moves and a cost; which of two joins is taken
 use Prim.Native.Nat.{ℕ, _+_, _<_}
 use mathlib.Core.Path.{_≡_}
 use mathlib.Core.List.{List, [], _∷_}
@@ -27,3 +28,14 @@ pub data Before : List ℕ → List ℕ → Type 0 where
   ends : {n : ℕ} {ns : List ℕ} → Before [] (n ∷ ns)
   lower : {m n : ℕ} {ms ns : List ℕ} → m < n → Before (m ∷ ms) (n ∷ ns)
   later : {m : ℕ} {ms ns : List ℕ} → Before ms ns → Before (m ∷ ms) (m ∷ ns)
+
+pub record Join : Type 0 where
+  pub cost : ℕ
+  pub start : ℕ
+  pub moves : List ℕ
+
+-- "the cheapest is taken; among equals the lowest start, then the move list that comes first by move number"
+pub data Ahead (j k : Join) : Type 0 where
+  byCost : j .cost < k .cost → Ahead j k
+  byStart : j .cost ≡ k .cost → j .start < k .start → Ahead j k
+  byMoves : j .cost ≡ k .cost → j .start ≡ k .start → Before (j .moves) (k .moves) → Ahead j k

@@ -1,16 +1,11 @@
--- The cheapest of numbered starts, the lowest number first, and the join that is taken.
--- Specification: section 3.2.
+-- The cheapest of numbered starts, the lowest number first.
 --     Choice, best          the lowest number below n with the least finite cost, or none
 --     Starts, startCost     numbered starts of a system; the cost from each
---     Join, Ahead           a start with moves and a cost; which of two joins is taken
-use Prim.Native.Nat.{ℕ, zero, suc, _<_}
-use mathlib.Core.Path.{_≡_}
-use mathlib.Core.List.{List}
+use Prim.Native.Nat.{ℕ, zero, suc}
 use mathlib.Core.Bool.{Bool, cond}
 use lib.Dec.{ltb}
 use Rattle.paths.specs.Systems.{System}
-use Rattle.paths.specs.Rivals.{Before}
-use Rattle.paths.specs.Distances.{Cost, fin, inf}
+use Rattle.paths.specs.Costs.{Cost, fin, inf}
 
 -- ---- the lowest of the cheapest
 
@@ -40,16 +35,3 @@ pub record Starts (S : System) : Type 0 where
 -- the cost from a number, infinite where the number is no start
 unfoldable pub startCost : {S : System} → Starts S → (S .Place → Cost) → ℕ → Cost
 startCost X D v = cond (X .isStart v) (D (X .place v)) inf
-
--- ---- joins
-
-pub record Join : Type 0 where
-  pub cost : ℕ
-  pub start : ℕ
-  pub moves : List ℕ
-
--- "the cheapest is taken; among equals the lowest start, then the move list that comes first by move number"
-pub data Ahead (j k : Join) : Type 0 where
-  byCost : j .cost < k .cost → Ahead j k
-  byStart : j .cost ≡ k .cost → j .start < k .start → Ahead j k
-  byMoves : j .cost ≡ k .cost → j .start ≡ k .start → Before (j .moves) (k .moves) → Ahead j k

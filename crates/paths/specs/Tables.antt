@@ -6,7 +6,8 @@ use Prim.Native.Nat.{ℕ, _≤_, _<_}
 use mathlib.Core.Path.{_≡_}
 use mathlib.Core.Bool.{true, false}
 use Rattle.paths.specs.Systems.{System, Legal}
-use Rattle.paths.specs.Distances.{Cost, fin, inf, through}
+use Rattle.paths.specs.Distances.{through}
+use Rattle.paths.specs.Costs.{Cost, fin, inf}
 
 -- good places have codes of their own below `size`; a legal move leads from one to another, at a price from 1
 -- to `dearest`

@@ -3,11 +3,10 @@
 --     placeTest                what a table must satisfy at one place
 --     certified                the test at every good place
 --     certificate              a table that passes is a `Table`, and so has the least costs
---     join-by-table            the cheapest join is the join by any table
---     certified-join           and so by one that passes
+--     certified-join           the cheapest join is the join by a table that passes
 use Prim.Native.Nat.{ℕ, zero, suc, _-_, _<_}
 use mathlib.Core.Logic.{_⊎_, inl, inr}
-use mathlib.Core.Path.{_≡_, refl, ap, _∙_}
+use mathlib.Core.Path.{_≡_}
 use mathlib.Core.List.{List, []}
 use mathlib.Core.Bool.{Bool, true, false, _&&_, _||_}
 use native.Mathlib.Omega.{arith}
@@ -17,21 +16,18 @@ use lib.Dec.{T, leb, leb→le, eqb→eq}
 use Rattle.job.specs.Grid.{vertices}
 use Rattle.job.specs.Job.{largestMinLength}
 use Rattle.job.proofs.Tests.{and-holds}
-use Rattle.paths.specs.Distances.{Cost, fin, inf, through, isCost, dist}
+use Rattle.paths.specs.Distances.{through, isCost}
+use Rattle.paths.specs.Costs.{Cost, fin, inf}
 use Rattle.paths.specs.Tables.{within, Table}
-use Rattle.paths.specs.Starts.{Choice, startCost}
-use Rattle.paths.specs.Foremost.{Chooses}
-use Rattle.paths.proofs.Starts.{best-chooses, best-same}
-use Rattle.paths.proofs.Cheapest.{table-dist, follow-dist}
 use Rattle.rules.specs.Views.{View, member}
 use Rattle.rules.specs.Segments.{Direction, low, high, Segment, fresh, running, paid, paidToward, Place}
 use Rattle.rules.specs.Prices.{Tech}
 use Rattle.rules.specs.Steps.{step, priced}
 use Rattle.rules.specs.Walks.{system}
-use Rattle.rules.specs.Joins.{places, starts, joinFrom, joinBy, joinOf}
+use Rattle.rules.specs.Joins.{joinOf}
+use Rattle.rules.specs.Tabled.{joinBy}
 use Rattle.rules.specs.Places.{segmentCode, entryCost, GoodSegment, GoodPlace, GoodTech}
-use Rattle.rules.proofs.Places.{start-good}
-use Rattle.rules.proofs.Lawful.{lawful}
+use Rattle.rules.proofs.Joins.{join-by-table}
 
 -- ---- the table
 
@@ -217,32 +213,7 @@ module _ (t : Tech) (view : View) (unjoined : List ℕ) (table : List (List ℕ)
 
 -- ---- the join
 
-module _ (t : Tech) (view : View) (tree unjoined : List ℕ) (D : Place → Cost) (good : GoodTech t) (table : Table (system t view unjoined) (GoodPlace t) D) where
-  -- the least costs
-  leastCosts : Place → Cost
-  leastCosts = dist (system t view unjoined) (places t)
-
-  -- the same cost from each start
-  starts-same : (v : ℕ) → v < vertices (t .grid) → startCost (starts t view tree unjoined) D v ≡ startCost (starts t view tree unjoined) leastCosts v
-  unfolding startCost leastCosts
-  starts-same v b = rw (table-dist (lawful view unjoined good) table (start-good b))
-
-  -- the same moves from the best start
-  follows-same : (c : Choice) → Chooses (startCost (starts t view tree unjoined) D) (vertices (t .grid)) c
-      → joinFrom t view tree unjoined D c ≡ joinFrom t view tree unjoined leastCosts c
-  unfolding joinFrom leastCosts
-  follows-same Choice.none h = refl
-  follows-same (Choice.first v c) h = rw (follow-dist (lawful view unjoined good) table (places t) (start-good (h .below)))
-
-  -- the cheapest join is the join by any table
-  pub join-by-table : joinBy t view tree unjoined D ≡ joinOf t view tree unjoined
-  unfolding joinBy joinOf leastCosts
-  join-by-table =
-      follows-same _ (best-chooses (startCost (starts t view tree unjoined) D) (vertices (t .grid)))
-      ∙ ap (joinFrom t view tree unjoined leastCosts) (best-same _ _ (vertices (t .grid)) starts-same)
-
 -- the cheapest join is the join by a table that passes the test
 pub certified-join : (t : Tech) (view : View) (tree unjoined : List ℕ) (table : List (List ℕ)) → GoodTech t → T (certified t view unjoined table)
     → joinBy t view tree unjoined (tableCost t table) ≡ joinOf t view tree unjoined
-certified-join t view tree unjoined table good h =
-    join-by-table t view tree unjoined (tableCost t table) good (certificate t view unjoined table h)
+certified-join t view tree unjoined table good h = join-by-table good view tree unjoined (certificate t view unjoined table h)

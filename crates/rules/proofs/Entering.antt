@@ -15,7 +15,7 @@ use denote.Enum.Declared.{tagOf}
 use Rattle.job.specs.Structs.{layerStruct}
 use Rattle.job.specs.declared.groups.Layer.{Layer as LayerStruct}
 use Rattle.paths.specs.Systems.{blocked, to}
-use Rattle.paths.specs.Distances.{Cost, fin, inf}
+use Rattle.paths.specs.Costs.{Cost, fin, inf}
 use Rattle.rules.specs.Tracks.{Entered, outside, at, entered}
 use Rattle.rules.specs.Views.{View}
 use Rattle.rules.specs.Segments.{Direction, Kind, along, down, up, kindOf, Segment, Place, back, grown, grow}

@@ -17,7 +17,7 @@ use Rattle.job.specs.Good.{GoodLayer}
 use Rattle.job.specs.Structs.{gridOf, layerStruct, penaltyOf}
 use Rattle.job.specs.declared.layers.Layers.{Layers}
 use Rattle.job.specs.declared.penalty.Penalty.the-variants.{Closed, Price}
-use Rattle.paths.specs.Distances.{fin, inf}
+use Rattle.paths.specs.Costs.{fin, inf}
 use Rattle.rules.specs.Tracks.{layerOf}
 use Rattle.rules.specs.Prices.{lineOf, charge}
 use Rattle.rules.specs.Overheads.{clear}

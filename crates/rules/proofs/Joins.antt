@@ -1,6 +1,7 @@
 -- The join that `joinOf` computes is the cheapest, and the only one.
 --     one-join                 there is one join at most
---     join-is, join-only       `joinOf` is the join, and nothing else is
+--     join-by-table            `joinOf` is the join by any table of the least costs
+--     join-is, join-only       it is the join, and nothing else is
 --     join-route               its moves are a route
 --     join-least, join-none    no rival costs less; where there is no join there is no rival
 --     join-short               it has fewer moves than there are places
@@ -16,17 +17,21 @@ use lib.ListN.{length}
 use Rattle.job.specs.Grid.{vertices}
 use Rattle.paths.specs.Systems.{System}
 use Rattle.paths.specs.Tables.{Lawful, Table}
-use Rattle.paths.specs.Distances.{Cost, dist, follow}
-use Rattle.paths.specs.Starts.{Choice, best, Starts, startCost, Join, Ahead, byCost}
+use Rattle.paths.specs.Distances.{dist, follow}
+use Rattle.paths.specs.Costs.{Cost}
+use Rattle.paths.specs.Starts.{Choice, best, Starts, startCost}
+use Rattle.paths.specs.Rivals.{Join, Ahead, byCost}
 use Rattle.paths.specs.Foremost.{GoodStarts, Foremost, joinFrom as joinAt}
 use Rattle.paths.proofs.Cheapest.{shorter, route-rival, route-cost, dist-table, follow-short}
 use Rattle.paths.proofs.Cheapest.{start-foremost, start-none, ahead-total}
+use Rattle.paths.proofs.FoundTable.{choiceFound, found-best}
 use Rattle.rules.specs.Views.{View}
 use Rattle.rules.specs.Segments.{Place}
 use Rattle.rules.specs.Prices.{Tech}
 use Rattle.rules.specs.Walks.{system, startAt, Rival, Route}
 use Rattle.rules.specs.Apart.{Apart}
-use Rattle.rules.specs.Joins.{Record, join, none, IsJoin, first, noRoute, places, starts, joinFrom, joinBy, joinOf}
+use Rattle.rules.specs.Joins.{Record, join, none, IsJoin, first, noRoute, places, recordOf, foundFrom, joinOf}
+use Rattle.rules.specs.Tabled.{starts, joinFrom, joinBy}
 use Rattle.rules.specs.Places.{placeCode, GoodPlace, GoodTech}
 use Rattle.rules.proofs.Places.{start-good, places-small}
 use Rattle.rules.proofs.Lawful.{lawful, costs-small}
@@ -69,6 +74,23 @@ module _ {t : Tech} {view : View} {tree unjoined : List ℕ} where
 
 -- ---- the join that is computed
 
+module _ {t : Tech} (good : GoodTech t) (view : View) (tree unjoined : List ℕ) {D : Place → Cost}
+    (T : Table (system t view unjoined) (GoodPlace t) D) where
+  -- what follows a table from a start that was chosen, as a record
+  choice-record : (b : Choice)
+      → joinFrom t view tree unjoined D b ≡ recordOf (choiceFound (lawful view unjoined good) T (starts t view tree unjoined) b)
+  unfolding joinFrom choiceFound recordOf
+  choice-record Choice.none = refl
+  choice-record (Choice.first v c) = refl
+
+  -- the join is the join by any table of the least costs
+  pub join-by-table : joinBy t view tree unjoined D ≡ joinOf t view tree unjoined
+  unfolding joinBy joinOf foundFrom
+  join-by-table =
+      let X = starts t view tree unjoined in
+      choice-record (best (startCost X D) (vertices (t .grid)))
+      ∙ ap recordOf (sym (found-best (lawful view unjoined good) T X (vertices (t .grid)) (λ v h. start-good h)))
+
 module _ {t : Tech} (good : GoodTech t) (view : View) {tree unjoined : List ℕ} (apart : Apart t tree unjoined) where
   abbrev S : System
   S = system t view unjoined
@@ -108,8 +130,7 @@ module _ {t : Tech} (good : GoodTech t) (view : View) {tree unjoined : List ℕ}
 
   -- what is computed is the join
   pub join-is : IsJoin t view tree unjoined (joinOf t view tree unjoined)
-  unfolding joinOf
-  join-is = table-is (dist-table laws)
+  join-is = rw (← (join-by-table good view tree unjoined (dist-table laws))) (table-is (dist-table laws))
 
   -- and nothing else is
   pub join-only : {r : Record} → IsJoin t view tree unjoined r → r ≡ joinOf t view tree unjoined
@@ -149,8 +170,9 @@ module _ {t : Tech} (good : GoodTech t) (view : View) {tree unjoined : List ℕ}
 
   -- a join has fewer moves than there are places
   pub join-short : {s c : ℕ} {ms : List ℕ} → joinOf t view tree unjoined ≡ join s ms c → length ms < places t
-  unfolding joinOf joinBy joinFrom
-  join-short {s} {c} {ms} e = by (best (startCost X D) (vertices (t .grid))) refl e
+  unfolding joinBy joinFrom
+  join-short {s} {c} {ms} e =
+      by (best (startCost X D) (vertices (t .grid))) refl (join-by-table good view tree unjoined (dist-table laws) ∙ e)
     where
       D : Place → Cost
       D = dist S (places t)

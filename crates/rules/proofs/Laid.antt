@@ -8,7 +8,7 @@ use mathlib.Core.List.{List, [], _∷_, _++_}
 use mathlib.Core.Bool.{Bool, true, false}
 use Rattle.job.specs.Lists.{All}
 use Rattle.job.specs.Grid.{Grid, vertices}
-use Rattle.paths.specs.Distances.{Cost, fin, inf}
+use Rattle.paths.specs.Costs.{Cost, fin, inf}
 use Rattle.rules.specs.Tracks.{Entered, outside, at, entered}
 use Rattle.rules.specs.Views.{View}
 use Rattle.rules.specs.Segments.{Direction, Kind, along, down, up, kindOf, Segment, Place, Grown, back, grown}

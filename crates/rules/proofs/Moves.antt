@@ -10,7 +10,7 @@ use mathlib.Core.Path.{_≡_, refl}
 use mathlib.Core.Bool.{Bool, true, false}
 use native.Mathlib.Omega.{arith}
 use Rattle.paths.specs.Systems.{blocked, to}
-use Rattle.paths.specs.Distances.{Cost, fin, inf}
+use Rattle.paths.specs.Costs.{Cost, fin, inf}
 use Rattle.rules.specs.Tracks.{Entered, outside, at, entered}
 use Rattle.rules.specs.Views.{View}
 use Rattle.rules.specs.Segments.{Kind, along, down, up, kindOf, Place, Grown, back, grown}

@@ -19,7 +19,7 @@ use Rattle.job.specs.Structs.{gridOf, layerStruct, penaltyOf}
 use Rattle.job.specs.declared.groups.Layer.{Layer as LayerStruct}
 use Rattle.job.specs.declared.penalty.Penalty.{Penalty}
 use Rattle.job.specs.declared.grid.Vertex.{Vertex as VertexStruct}
-use Rattle.paths.specs.Distances.{Cost, fin, inf, plus}
+use Rattle.paths.specs.Costs.{Cost, fin, inf, plus}
 use Rattle.rules.specs.Tracks.{layerOf, outside, at, entered}
 use Rattle.rules.specs.Views.{View}
 use Rattle.rules.specs.Segments.{Kind, down, kindOf}

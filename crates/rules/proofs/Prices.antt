@@ -10,7 +10,7 @@ use lib.Dec.{eqb}
 use borrow.Author.Tests.{eqb-false}
 use Rattle.job.specs.Grid.{vertices}
 use Rattle.job.specs.Job.{closedPrice}
-use Rattle.paths.specs.Distances.{Cost, fin, inf, plus}
+use Rattle.paths.specs.Costs.{Cost, fin, inf, plus}
 use Rattle.rules.specs.Tracks.{outside, at, entered}
 use Rattle.rules.specs.Segments.{kindOf}
 use Rattle.rules.specs.Views.{View}

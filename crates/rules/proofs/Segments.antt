@@ -14,7 +14,7 @@ use borrow.Author.Tests.{leb-false}
 use Rattle.job.specs.Grid.{vertices}
 use Rattle.job.specs.Job.{largestMinLength}
 use Rattle.paths.specs.Systems.{blocked, to}
-use Rattle.paths.specs.Distances.{fin}
+use Rattle.paths.specs.Costs.{fin}
 use Rattle.paths.proofs.Costs.{inf-not-fin}
 use Rattle.paths.proofs.OnBest.{same-fin}
 use Rattle.rules.specs.Views.{View}

@@ -7,7 +7,7 @@ use mathlib.Core.Path.{_≡_, refl, sym, ap, _∙_}
 use native.Mathlib.Omega.{arith}
 use Rattle.job.specs.Grid.{Grid}
 use Rattle.job.specs.declared.groups.Layer.{Layer as LayerStruct}
-use Rattle.paths.specs.Distances.{fin, inf}
+use Rattle.paths.specs.Costs.{fin, inf}
 use Rattle.paths.proofs.Costs.{inf-not-fin}
 use Rattle.paths.proofs.OnBest.{same-fin}
 use Rattle.rules.specs.Views.{View}

@@ -3,17 +3,16 @@
 --     Record       a join with its start, moves and cost, or none
 --     IsJoin       the route that no route is ahead of; or none, and there is no route
 --     places       how many places there are
---     joinOf       the function that computes it: least cost to go, lowest start, then at each place the
---                  lowest move that keeps the cost
+--     joinOf       the function that computes it: the cheapest, by lowest start, then by lowest moves
 use Prim.Native.Nat.{ℕ, _+_, _*_}
 use mathlib.Core.Path.{_≡_}
-use mathlib.Core.List.{List}
+use mathlib.Core.List.{List, [], _∷_}
+use mathlib.Core.Bool.{cond}
 use Rattle.job.specs.Grid.{vertices}
 use Rattle.job.specs.Job.{largestMinLength}
-use Rattle.paths.specs.Distances.{Cost, dist, follow}
-use Rattle.paths.specs.Starts.{Choice, best, Starts, startCost, Join, Ahead}
+use Rattle.paths.specs.Rivals.{Join, Ahead}
+use Rattle.paths.specs.Cheapests.{Found, found, cheapestOf, before, cheapestIn}
 use Rattle.rules.specs.Views.{View, member}
-use Rattle.rules.specs.Segments.{Place}
 use Rattle.rules.specs.Prices.{Tech}
 use Rattle.rules.specs.Walks.{system, startAt, Route}
 
@@ -35,19 +34,17 @@ pub data IsJoin (t : Tech) (view : View) (tree unjoined : List ℕ) : Record →
 unfoldable pub places : Tech → ℕ
 places t = vertices (t .grid) * 2 * (largestMinLength (t .lines) + 1)
 
-module _ (t : Tech) (view : View) (tree unjoined : List ℕ) where
-  -- "A join starts at any tree vertex"
-  abbrev pub starts : Starts (system t view unjoined)
-  starts = record { many = vertices (t .grid); isStart = λ v. member v tree; place = startAt }
+-- what was found, with the start before its moves, as a record
+unfoldable pub recordOf : Found → Record
+recordOf Found.none = none
+recordOf (found cost []) = none
+recordOf (found cost (start ∷ moves)) = join start moves cost
 
-  -- what follows a table of costs from the best start
-  unfoldable pub joinFrom : (Place → Cost) → Choice → Record
-  joinFrom D Choice.none = none
-  joinFrom D (Choice.first v c) = join v (follow (system t view unjoined) D (places t) (startAt v)) c
+-- the cheapest from a tree vertex, the start before its moves. A cheapest route comes to no place twice, so it
+-- has fewer moves than there are places
+unfoldable pub foundFrom : Tech → View → (tree unjoined : List ℕ) → (v : ℕ) → Found
+foundFrom t view tree unjoined v = cond (member v tree) (before v 0 (cheapestIn (system t view unjoined) (places t) (startAt v))) Found.none
 
-  -- the join by a table of costs
-  unfoldable pub joinBy : (Place → Cost) → Record
-  joinBy D = joinFrom D (best (startCost starts D) (vertices (t .grid)))
-
-  unfoldable pub joinOf : Record
-  joinOf = joinBy (dist (system t view unjoined) (places t))
+-- the cheapest from any
+unfoldable pub joinOf : Tech → View → (tree unjoined : List ℕ) → Record
+joinOf t view tree unjoined = recordOf (cheapestOf (foundFrom t view tree unjoined) (vertices (t .grid)))

@@ -7,6 +7,7 @@ pub mod Steps
 pub mod Walks
 pub mod Standings
 pub mod Joins
+pub mod Tabled
 pub mod Places
 pub mod Routings
 pub mod Maps

@@ -13,7 +13,7 @@ use lib.Dec.{eqb, ltb}
 use Rattle.job.specs.Grid.{vertices}
 use Rattle.job.specs.Job.{largestMinLength}
 use Rattle.job.specs.Good.{GoodGrid, GoodLines}
-use Rattle.paths.specs.Distances.{Cost, fin, inf}
+use Rattle.paths.specs.Costs.{Cost, fin, inf}
 use Rattle.rules.specs.Segments.{low, high, Segment, fresh, running, paid, paidToward, Place}
 use Rattle.rules.specs.Prices.{Tech}
 

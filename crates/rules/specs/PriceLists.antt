@@ -15,7 +15,7 @@ use Rattle.job.specs.Grid.{vertices}
 use Rattle.job.specs.Job.{closedPrice}
 use Rattle.job.specs.Structs.{layerStruct}
 use Rattle.job.specs.declared.groups.Layer.{Layer as LayerStruct}
-use Rattle.paths.specs.Distances.{Cost}
+use Rattle.paths.specs.Costs.{Cost}
 use Rattle.rules.specs.Tracks.{layerOf}
 use Rattle.rules.specs.Segments.{Kind, along, down, up}
 use Rattle.rules.specs.Prices.{Tech, lineOf, charge, sumCost}

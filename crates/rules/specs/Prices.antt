@@ -11,7 +11,7 @@ use lib.ListN.{getD}
 use lib.Dec.{eqb}
 use Rattle.job.specs.Grid.{Grid}
 use Rattle.job.specs.Job.{Layer, Job, closedPrice}
-use Rattle.paths.specs.Distances.{Cost, fin, inf, plus}
+use Rattle.paths.specs.Costs.{Cost, fin, inf, plus}
 use Rattle.rules.specs.Tracks.{layerOf}
 use Rattle.rules.specs.Segments.{along, down, up, kindOf}
 use Rattle.rules.specs.Views.{View}

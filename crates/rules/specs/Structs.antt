@@ -8,7 +8,7 @@ use Rattle.job.specs.Grid.{Grid, Vertex, vertices, stepsColumn, strideOf}
 use Rattle.job.specs.Job.{Layer, largestMinLength}
 use Rattle.job.specs.Structs.{Small, Sized, gridOf, vertexStruct}
 use Rattle.paths.specs.Systems.{Step, blocked, to}
-use Rattle.paths.specs.Distances.{Cost, fin, inf}
+use Rattle.paths.specs.Costs.{Cost, fin, inf}
 use Rattle.rules.specs.Prices.{Tech, entering}
 use Rattle.rules.specs.Places.{GoodTech}
 use Rattle.job.specs.declared.groups.Layer.{Layer as LayerStruct}

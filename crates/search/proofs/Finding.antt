@@ -13,7 +13,7 @@ use lib.ListN.{length, getD, set}
 use lib.Dec.{eqb, ltb}
 use borrow.Author.Tests.{eqb-true, ltb-true, ltb-false}
 use Rattle.paths.specs.Systems.{Legal}
-use Rattle.paths.specs.Distances.{Cost, fin, inf}
+use Rattle.paths.specs.Costs.{Cost, fin, inf}
 use Rattle.paths.specs.Tables.{within}
 use Rattle.paths.specs.Forward.{Enters, Forward}
 use Rattle.paths.proofs.Costs.{inf-not-fin}

@@ -12,7 +12,8 @@ use mathlib.Core.Bool.{Bool, true}
 use native.Mathlib.Omega.{arith}
 use lib.ListN.{getD}
 use borrow.Author.Tests.{eqb-true, eq-eqb}
-use Rattle.paths.specs.Distances.{fin, lowestFrom}
+use Rattle.paths.specs.Distances.{lowestFrom}
+use Rattle.paths.specs.Costs.{fin}
 use Rattle.paths.specs.Leads.{Leads, isLead, lowestLead}
 use Rattle.paths.proofs.Lowest.{lowest-passes, lowest-one, lowest-none}
 use Rattle.paths.proofs.Leads.{leads-known, test-leads, leads-test}

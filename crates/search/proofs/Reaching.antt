@@ -14,7 +14,7 @@ use native.Mathlib.Omega.{arith}
 use lib.ListN.{getD, set}
 use lib.Dec.{eqb}
 use Rattle.paths.specs.Systems.{Step, blocked, to}
-use Rattle.paths.specs.Distances.{Cost, fin, inf}
+use Rattle.paths.specs.Costs.{Cost, fin, inf}
 use Rattle.paths.proofs.Steps.{not-blocked, one-price, one-next}
 use Rattle.rules.specs.Views.{View}
 use Rattle.rules.specs.Segments.{kindOf, Place}

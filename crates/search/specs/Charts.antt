@@ -8,7 +8,7 @@ use mathlib.Core.Path.{_≡_}
 use mathlib.Core.List.{List}
 use mathlib.Core.Bool.{true}
 use lib.ListN.{length, getD}
-use Rattle.paths.specs.Distances.{fin}
+use Rattle.paths.specs.Costs.{fin}
 use Rattle.paths.specs.Forward.{LowerBound, Forward}
 use Rattle.paths.specs.Leads.{Leading, ledStart}
 use Rattle.rules.specs.Views.{View}

@@ -17,7 +17,7 @@ use lib.Dec.{eqb, ltb}
 use Rattle.job.specs.Grid.{vertices}
 use Rattle.job.specs.Job.{largestMinLength}
 use Rattle.paths.specs.Systems.{System}
-use Rattle.paths.specs.Distances.{Cost, fin, inf}
+use Rattle.paths.specs.Costs.{Cost, fin, inf}
 use Rattle.paths.specs.Starts.{Starts}
 use Rattle.rules.specs.Views.{View}
 use Rattle.rules.specs.Segments.{Place}

@@ -11,7 +11,8 @@ use native.Mathlib.Omega.{arith}
 use native.Mathlib.Decide.{decLt}
 use borrow.Author.Tests.{lt-ltb}
 use Rattle.job.specs.Grid.{vertices}
-use Rattle.paths.specs.Distances.{Cost, fin, lowestFrom}
+use Rattle.paths.specs.Distances.{lowestFrom}
+use Rattle.paths.specs.Costs.{Cost, fin}
 use Rattle.paths.specs.Forward.{Forward}
 use Rattle.paths.specs.Leads.{Leading, lowestLead, isLed, ledStart}
 use Rattle.rules.specs.Views.{View}

@@ -13,7 +13,7 @@ use native.Mathlib.Decide.{ℕ-discrete}
 use lib.ListN.{getD}
 use lib.Dec.{eqb}
 use Rattle.paths.specs.Systems.{Legal}
-use Rattle.paths.specs.Distances.{Cost, fin}
+use Rattle.paths.specs.Costs.{Cost, fin}
 use Rattle.paths.specs.Leads.{ends, goesOn, isLead, lowestLead, isLed}
 use Rattle.paths.proofs.FollowLeads.{same-test}
 use Rattle.paths.proofs.Leads.{leads-map, test-leads, leads-test}

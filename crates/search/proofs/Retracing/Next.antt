@@ -12,7 +12,7 @@ use mathlib.Core.Bool.{Bool, true, false}
 use native.Mathlib.Omega.{arith}
 use native.Mathlib.Decide.{ℕ-discrete}
 use lib.ListN.{length, getD}
-use Rattle.paths.specs.Distances.{Cost, fin}
+use Rattle.paths.specs.Costs.{Cost, fin}
 use Rattle.paths.specs.Leads.{Leads, ends, goesOn, lowestLead}
 use Rattle.paths.proofs.Leads.{test-leads}
 use Rattle.rules.specs.Tracks.{at}

@@ -12,7 +12,7 @@ use lib.ListN.{length, getD}
 use lib.Dec.{eqb}
 use Rattle.job.specs.Grid.{vertices}
 use Rattle.paths.specs.Systems.{Legal}
-use Rattle.paths.specs.Distances.{Cost, fin}
+use Rattle.paths.specs.Costs.{Cost, fin}
 use Rattle.paths.specs.Starts.{Starts}
 use Rattle.paths.specs.Leads.{lowestLead, isLed}
 use Rattle.rules.specs.Tracks.{at}
