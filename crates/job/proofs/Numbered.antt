@@ -12,7 +12,8 @@ use Rattle.bits.specs.Bits.{bitsOf}
 use Rattle.job.specs.Grid.{Grid, Vertex}
 use Rattle.job.specs.Job.{Obstacle}
 use Rattle.job.specs.Reading.{Read, refused, good, _>>=_, _>>_, rule, readMany, Head, readHead, readLayer, readObstacle}
-use Rattle.job.specs.Reading.{readPin, readPins, readBox, readNetHead, readNet, netWidth, readNets, readTail, readAfterHead, readBits, readJob}
+use Rattle.job.specs.Reading.{readPin, readPins, readBox, readNet, netWidth, readNets, readTail, readAfterHead, readJob}
+use Rattle.job.specs.Heads.{readBits}
 
 -- what is refused has a number from 1 on
 unfoldable pub Numbered : {A : Type 0} → Read A → Type 0
@@ -97,10 +98,11 @@ module _ (bits : List ℕ) where
 
     -- a net
     net-numbered : (earlier : List Vertex) (at : ℕ) → Numbered (readNet bits g obstacles earlier at)
-    unfolding readNet readNetHead
+    unfolding readNet
     net-numbered earlier at =
-        then-numbered _ _ (then-numbered _ _ (rule-numbered 2 _ _ (omega arith)) (rule-numbered 7 _ _ (omega arith)))
-        (bind-numbered _ _ (pins-numbered earlier _ _) (λ pins. bind-numbered _ _ (many-numbered 38 _ _ _ box-numbered) (λ boxes. good-numbered _)))
+        then-numbered _ _ (rule-numbered 2 _ _ (omega arith))
+        (then-numbered _ _ (rule-numbered 7 _ _ (omega arith))
+        (bind-numbered _ _ (pins-numbered earlier _ _) (λ pins. bind-numbered _ _ (many-numbered 38 _ _ _ box-numbered) (λ boxes. good-numbered _))))
 
     -- nets
     nets-numbered : (earlier : List Vertex) (n at : ℕ) → Numbered (readNets bits g obstacles earlier n at)

@@ -20,12 +20,13 @@ use mathlib.Core.Logic.{_↔_}
 use mathlib.Core.List.{List, [], _∷_, _++_, append-assoc, flatMap}
 use lib.ListN.{length, take, drop, replicate}
 use lib.Seq.{take-append-seam}
+use lib.Dec.{leb}
 use Rattle.bits.specs.Bits.{bitsOf}
 use Rattle.bits.specs.Puts.{AllBelow}
 use Rattle.bits.proofs.Laws.{bitsOf-bits}
 use Rattle.job.specs.Job.{Net, Job}
-use Rattle.job.specs.Reading.{good, obstaclesAt, netsAt, netsWidth, readJob}
-use Rattle.job.specs.Heads.{jobHead}
+use Rattle.job.specs.Reading.{good, _>>_, rule, obstaclesAt, netsAt, netsWidth, readJob}
+use Rattle.job.specs.Heads.{jobHead, readBits}
 use Rattle.job.specs.Packing.{netBits, jobBits, packJob}
 use Rattle.job.specs.Good.{GoodJob}
 use Rattle.job.proofs.Tests.{tests}
@@ -35,22 +36,25 @@ use Rattle.job.proofs.TwoWay.Widths.{nets-bits, job-small}
 use Rattle.job.proofs.TwoWay.Filled.{job-below, filled-tail, filled-packed}
 use Rattle.job.proofs.TwoWay.Jobs.{job-placed, bits-read}
 
+-- reading bytes: their number, then their bits
+job-form : (b : List ℕ) → readJob b ≡ _>>_ (rule 1 0 (leb (length b) 262144)) (readBits (bitsOf b))
+unfolding readJob readBits
+job-form b = refl
+
 -- bytes are read as a good job exactly where they are that job's packed bytes and it keeps the rules
 pub two-way : (b : List ℕ) (j : Job) → AllBelow 256 b → (readJob b ≡ good j) ↔ ((b ≡ packJob j) × GoodJob j)
-unfolding readJob packJob
+unfolding packJob
 two-way b j bytes =
-    simp (steps, tests, bits-read (bitsOf b) (bitsOf-bits b), filled-packed b (jobBits j) bytes (job-below j))
+    simp (job-form, steps, tests, bits-read (bitsOf b) (bitsOf-bits b), filled-packed b (jobBits j) bytes (job-below j))
     (λ (n, h). h, λ h. (rw (h .0) (job-small j (h .1)), h))
 
 -- a job that was read keeps the rules
 pub rules-hold : (b : List ℕ) (j : Job) → readJob b ≡ good j → GoodJob j
-unfolding readJob
-rules-hold b j e = let h = simp (steps, bits-read (bitsOf b) (bitsOf-bits b)) at e in h .1 .1
+rules-hold b j e = let h = simp (job-form, steps, bits-read (bitsOf b) (bitsOf-bits b)) at e in h .1 .1
 
 -- the bits of a good job's bytes are its groups, then fewer than eight zero bits
 pub job-bits : (b : List ℕ) (j : Job) → readJob b ≡ good j → (k : ℕ) × (k < 8) × (bitsOf b ≡ jobBits j ++ replicate k 0)
-unfolding readJob
-job-bits b j e = let h = simp (steps, bits-read (bitsOf b) (bitsOf-bits b)) at e in h .1 .0
+job-bits b j e = let h = simp (job-form, steps, bits-read (bitsOf b) (bitsOf-bits b)) at e in h .1 .0
 
 -- the bit at which a net begins: after the head, the layer lines, the obstacles and the nets before it
 unfoldable pub netAt : Job → (i : ℕ) → ℕ

@@ -167,16 +167,12 @@ readBox bits g after at = do
   rule 10 at (goodBox g (boxAt bits at))
   good (boxAt bits at)
 
--- "7, net head: one pin": "pins minus one 4, at least 1"
-unfoldable pub readNetHead : (bits : List ℕ) (at : ℕ) → Read Unit
-readNetHead bits at = do
-  wholeGroup bits at 8
-  rule 7 at (leb 1 (field bits at 4))
-
--- "Net: head of 8 bits (pins minus one 4, at least 1; boxes 4), then pins of 19 bits, then boxes of 38 bits"
+-- "Net: head of 8 bits (pins minus one 4, at least 1; boxes 4), then pins of 19 bits, then boxes of 38 bits";
+-- "7, net head: one pin"
 unfoldable pub readNet : (bits : List ℕ) → Grid → List Obstacle → (earlier : List Vertex) → (at : ℕ) → Read Net
 readNet bits g obstacles earlier at = do
-  readNetHead bits at
+  wholeGroup bits at 8
+  rule 7 at (leb 1 (field bits at 4))
   pins ← readPins bits g obstacles earlier (suc (field bits at 4)) (at + 8)
   boxes ← readMany 38 (readBox bits g) (field bits (at + 4) 4) (at + 8 + 19 * length pins)
   good (record { pins = pins; boxes = boxes })
@@ -223,13 +219,9 @@ readAfterHead bits head = do
     nets = nets;
   })
 
-unfoldable pub readBits : (bits : List ℕ) → Read Job
-readBits bits = do
-  head ← readHead bits
-  readAfterHead bits head
-
 -- "1, 0: job over 262,144 bytes"
 unfoldable pub readJob : (bytes : List ℕ) → Read Job
 readJob bytes = do
   rule 1 0 (leb (length bytes) 262144)
-  readBits (bitsOf bytes)
+  head ← readHead (bitsOf bytes)
+  readAfterHead (bitsOf bytes) head

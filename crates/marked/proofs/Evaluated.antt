@@ -9,8 +9,9 @@ use Rattle.job.specs.Lists.{any, all, All}
 use Rattle.job.specs.Grid.{vertices, vertexNumber, inside, same, stepsColumn, nextHigh, runHigh, strideOf}
 use Rattle.job.specs.Job.{largestMinLength}
 use Rattle.job.specs.Reading.{good, _>>=_, _>>_, rule, readMany, headAt, readHead, layerAt, viaRule, readLayer, vertexAt, covered, onObstacle, readPin, readPins}
-use Rattle.job.specs.Reading.{boxAt, goodSpan, goodBox, readBox, readNetHead, readNet, netWidth, readNets, netsWidth, readTail, obstaclesAt, netsAt}
-use Rattle.job.specs.Reading.{readAfterHead, readBits, readJob}
+use Rattle.job.specs.Reading.{boxAt, goodSpan, goodBox, readBox, readNet, netWidth, readNets, netsWidth, readTail, obstaclesAt, netsAt}
+use Rattle.job.specs.Reading.{readAfterHead, readJob}
+use Rattle.job.specs.Heads.{readBits}
 use Rattle.paths.specs.Distances.{isCost, onward, keeps, lowestFrom, lowestKeeping, moveOn, follow}
 use Rattle.paths.specs.Starts.{orNext, best, startCost}
 use Rattle.rules.specs.Tracks.{layerOf, rowOf, columnOf, trackIndex, trackLength, ifThere, entered}
@@ -39,7 +40,7 @@ IsRead row = readJob (row .bytes) ≡ good (row .job)
 pub job-of-bytes : All IsRead rows × All IsEdge edges
 unfolding All rows rowA rowB rowC rowD rowE rowF rowG rowH rowI rowJ rowK rowL edges largestGrid largerGrid leastM noM viaBelow plainLines plainJob pin
     fieldBits number bitsOf field whole any all vertices inside same covered runHigh nextHigh stepsColumn onObstacle _>>=_ _>>_ rule readMany headAt readHead
-    layerAt viaRule readLayer vertexAt readPin readPins boxAt goodSpan goodBox readBox readNetHead readNet netWidth readNets netsWidth readTail obstaclesAt
+    layerAt viaRule readLayer vertexAt readPin readPins boxAt goodSpan goodBox readBox readNet netWidth readNets netsWidth readTail obstaclesAt
     netsAt readAfterHead readBits readJob
 job-of-bytes = (
   (refl, (refl, (refl, (refl, (refl, (refl, (refl, (refl, (refl, (refl, (refl, (refl, tt)))))))))))),

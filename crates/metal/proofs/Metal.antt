@@ -11,6 +11,7 @@ use mathlib.Core.Bool.{Bool, true, false, _||_, cond, or-true}
 use native.Mathlib.Nat.{not-suc-le-zero, le-of-suc-le-suc}
 use native.Mathlib.Omega.{arith}
 use lib.ListN.{length}
+use borrow.Author.Tests.{ne-eqb}
 use Rattle.job.specs.Lists.{any, All}
 use Rattle.rules.specs.Views.{member}
 use Rattle.rules.specs.Standings.{more}
@@ -53,7 +54,7 @@ module _ (v : ℕ) where
   code-step : (code n : ℕ) (m : List ℕ) (ms : List (List ℕ)) → netCode code n (m ∷ ms) v ≡ netCode (after code n (member v m)) (suc n) ms v
   unfolding netCode
   code-step zero n m ms = refl
-  code-step (suc c) n m ms = refl
+  code-step (suc c) n m ms = rw (ne-eqb (suc c) 0 (λ e. omega (arith, e))) refl
 
   -- nets with no metal leave it
   pub code-empty : (code n : ℕ) (metal : List (List ℕ)) → All (λ m. m ≡ []) metal → netCode code n metal v ≡ code

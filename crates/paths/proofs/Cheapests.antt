@@ -1,7 +1,7 @@
 -- What is found is the cheapest route, the first by move number among equals.
---     Earlier, earlier-trans       a cost and moves that come no later than others
---     Heads, Chosen, chosen        the cheapest of several, each of which begins with its own number
---     ChosenIn, at-goal, chosen-in     the cheapest route of at most so many moves from a place that is no goal
+--     Earlier, earlier-trans           a cost and moves that come no later than others
+--     Heads, Chosen, chosen            the cheapest of several, each of which begins with its own number
+--     ChosenIn, at-goal, chosen-in     the cheapest route of at most so many moves from a place
 use Prim.Native.Nat.{ℕ, zero, suc, _+_, _≤_, _<_}
 use native.Mathlib.Omega.{arith}
 use native.Mathlib.Decide.{ℕ-discrete}

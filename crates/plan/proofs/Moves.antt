@@ -13,7 +13,7 @@ use native.Mathlib.Omega.{arith}
 use mathlib.Core.Path.{_≡_, refl, sym, ap, subst, _∙_}
 use mathlib.Core.Logic.{_↔_}
 use mathlib.Core.List.{List, [], _∷_, flatMap}
-use mathlib.Core.Bool.{Bool, true, false}
+use mathlib.Core.Bool.{Bool, true, false, cond, not}
 use lib.ListN.{length, drop}
 use borrow.Author.Tests.{ne-eqb}
 use lib.Dec.{T, eqb, leb→le, le→leb}
@@ -32,7 +32,7 @@ use Rattle.rules.specs.Steps.{Made, Stepped, illegal, legal, step, priceOf, pri
 use Rattle.rules.specs.Walks.{system, walked, walk, total, walkCost}
 use Rattle.rules.proofs.Members.{not-both}
 use Rattle.rules.proofs.Walks.{walk-on, walk-first}
-use Rattle.plan.specs.Reading.{Moved, withMove, agree, judged, readMoves}
+use Rattle.plan.specs.Reading.{Moved, withMove, judged, readMoves}
 
 -- ---- a field
 
@@ -59,8 +59,7 @@ no-more : (n : ℕ) → 1 ≤ n → eqb n 0 ≡ false
 no-more n some = ne-eqb n 0 (λ e. omega arith)
 
 -- two tests agree
-agree-holds : (a b : Bool) → T (agree a b) ↔ (a ≡ b)
-unfolding agree
+agree-holds : (a b : Bool) → T (cond a b (not b)) ↔ (a ≡ b)
 agree-holds true true = (λ h. refl, λ e. tt)
 agree-holds true false = (λ h. absurd h, λ e. absurd (not-both {b = true} refl e))
 agree-holds false true = (λ h. absurd h, λ e. absurd (not-both {b = false} e refl))

@@ -7,7 +7,7 @@
 --     readNet, readNets, readPlan
 use Prim.Native.Nat.{ℕ, zero, suc, _+_, _-_, _*_}
 use mathlib.Core.List.{List, [], _∷_, _++_}
-use mathlib.Core.Bool.{Bool, true, false, _&&_, not}
+use mathlib.Core.Bool.{Bool, _&&_, not, cond}
 use lib.ListN.{length, drop}
 use lib.Dec.{leb, ltb, eqb}
 use Rattle.bits.specs.Bits.{bitsOf, field, whole, number}
@@ -37,17 +37,12 @@ pub record Moved : Type 0 where
 unfoldable pub withMove : (m : ℕ) → Made → Moved → Moved
 withMove m made rest = record { moves = m ∷ rest .moves; last = rest .last; made = made ∷ rest .made }
 
--- both tests hold, or neither
-unfoldable pub agree : Bool → Bool → Bool
-agree true b = b
-agree false b = not b
-
 -- "17, move: move not legal, unjoined pin entered early, or last move enters none": a move enters an unjoined
 -- pin just where it is the last
 unfoldable pub judged : (at : ℕ) (last : Bool) (unjoined : List ℕ) → Stepped → Read Made
 judged at last unjoined illegal = refused 17 at
 judged at last unjoined (legal made) = do
-  rule 17 at (agree (member (made .next .vertex) unjoined) last)
+  rule 17 at (cond (member (made .next .vertex) unjoined) last (not last))
   good made
 
 unfoldable pub readMoves : (bits : List ℕ) → Tech → View → (unjoined : List ℕ) → (n at : ℕ) → Place → Read Moved

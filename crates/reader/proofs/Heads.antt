@@ -14,7 +14,8 @@ use borrow.Author.Tests.{le-leb, lt-leb}
 use lib.ListN.{length}
 use Rattle.bits.specs.Bits.{bitsOf, field, whole}
 use Rattle.bits.proofs.Laws.{bitsOf-bits, field-below}
-use Rattle.job.specs.Reading.{Read, refused, good, _>>=_, _>>_, rule, Head, headAt, readHead, readAfterHead, readBits, readJob}
+use Rattle.job.specs.Reading.{Read, refused, good, _>>=_, _>>_, rule, Head, headAt, readHead, readAfterHead, readJob}
+use Rattle.job.specs.Heads.{readBits}
 use Rattle.job.specs.Structs.{headGroup, headOf, headStruct, gridStruct, Small, Sized}
 use Rattle.reader.specs.Structs.{headRead}
 use Rattle.job.specs.declared.groups.Head.{Head as HeadStruct}
@@ -63,7 +64,7 @@ job-too-long bytes h = rw (lt-leb (length bytes) 262144 h)
 
 -- with no more bytes than that, the bits are read
 job-bits : (bytes : List ℕ) → length bytes ≤ 262144 → readJob bytes ≡ readBits (bitsOf bytes)
-unfolding readJob rule _>>_
+unfolding readJob readBits rule _>>_
 job-bits bytes h = rw (le-leb (length bytes) 262144 h)
 
 -- a head that was read, or refused

@@ -6,7 +6,7 @@ use Prim.Native.Nat.{ℕ, zero, suc, _+_, _≤_, _<_}
 use mathlib.Core.Path.{_≡_, refl, sym, ap, subst, _∙_}
 use mathlib.Core.Logic.{_⊎_, inl, inr}
 use mathlib.Core.List.{List, [], _∷_, _++_, append-assoc, append-nil}
-use mathlib.Core.Bool.{Bool, true, false, _||_, or-true}
+use mathlib.Core.Bool.{Bool, true, false, _||_, or-true, cond, not}
 use native.Mathlib.Omega.{arith}
 use lib.ListN.{length}
 use lib.Dec.{eqb}
@@ -22,7 +22,7 @@ use Rattle.rules.specs.Steps.{Made, Stepped, illegal, legal, step}
 use Rattle.rules.specs.Walks.{verticesOf}
 use Rattle.rules.specs.Standings.{Standing}
 use Rattle.rules.proofs.Members.{member-append, member-both, member-here}
-use Rattle.plan.specs.Reading.{group, agree, Moved, withMove, judged, readMoves}
+use Rattle.plan.specs.Reading.{group, Moved, withMove, judged, readMoves}
 use Rattle.plan.proofs.Moves.{judged-good}
 use Rattle.tree.specs.Spots.{Spots}
 use Rattle.tree.proofs.Spots.{spot-goal}
@@ -48,7 +48,7 @@ module _ (bits : List ℕ) {t : Tech} (view : View) (good-t : GoodTech t) where
   judged-same tree unjoined spots at last p apart on held (legal made) e =
       let lands = step-lands view p (field bits at 2) good-t on e in
       let w = made .next .vertex in
-      ap (λ (b : Bool). _>>_ (rule 17 at (agree b last)) (good made))
+      ap (λ (b : Bool). _>>_ (rule 17 at (cond b last (not last))) (good made))
       (spot-goal (t .grid) tree unjoined spots w (apart w) (lands .place .vertex) held)
 
   -- what was done so far and the rest are the whole, and the arrays stand for what the moves leave

@@ -6,7 +6,7 @@
 use Prim.Native.Nat.{ℕ, _+_, _≤_, _<_}
 use mathlib.Core.Path.{_≡_, refl, sym, ap, _∙_}
 use mathlib.Core.List.{List}
-use mathlib.Core.Bool.{Bool, true, false, not, Bool·beq}
+use mathlib.Core.Bool.{Bool, true, false, not, Bool·beq, cond}
 use native.Mathlib.Omega.{arith}
 use lib.ListN.{length, getD}
 use lib.Dec.{eqb}
@@ -32,7 +32,7 @@ use Rattle.rules.specs.declared.segment.Segment.the-variants.{Fresh, Running, P
 use Rattle.rules.specs.declared.step.Place.{Place as PlaceStruct}
 use Rattle.rules.proofs.Techs.{largest-small}
 use Rattle.rules.proofs.Members.{not-both}
-use Rattle.plan.specs.Reading.{group, agree}
+use Rattle.plan.specs.Reading.{group}
 use Rattle.walker.proofs.Landing.{step-lands}
 use Rattle.replay.specs.Following.{readStart, readCost, judgedBy, judgedMove}
 use Rattle.replay.specs.Structs.{AtPlace, judgedOf, WholeJudged, IsJudged}
@@ -130,14 +130,12 @@ tests-same false true h = absurd (not-both refl h)
 tests-same false false h = refl
 
 -- two tests agree where they are the same
-agree-same : (a b : Bool) → a ≡ b → agree a b ≡ true
-unfolding agree
+agree-same : (a b : Bool) → a ≡ b → cond a b (not b) ≡ true
 agree-same true b e = sym e
 agree-same false b e = rw (← e) refl
 
 -- and only there
-agree-other : (a b : Bool) → (a ≡ b → ⊥) → agree a b ≡ false
-unfolding agree
+agree-other : (a b : Bool) → (a ≡ b → ⊥) → cond a b (not b) ≡ false
 agree-other true true differ = absurd (differ refl)
 agree-other true false differ = refl
 agree-other false true differ = refl
@@ -226,4 +224,4 @@ judged-step bits t view spots last at p {made} e = by (step t view p (field bits
   where
     by : (x : Stepped) → judgedBy at last spots x ≡ good made → x ≡ legal made
     by illegal h = let z : _≡_ {A = ℕ} 0 1 = cc in absurd (omega arith)
-    by (legal m) h = ap legal (good-good m made .0 (then-good (rule 17 at (agree (eqb (getD spots (m .next .vertex) 0) 2) last)) (good m) made .0 h .1))
+    by (legal m) h = ap legal (good-good m made .0 (then-good (rule 17 at (cond (eqb (getD spots (m .next .vertex) 0) 2) last (not last))) (good m) made .0 h .1))

@@ -7,7 +7,7 @@
 --     netFrom                          the records of a net
 use Prim.Native.Nat.{ℕ, zero, suc, _+_, _*_}
 use mathlib.Core.List.{List}
-use mathlib.Core.Bool.{Bool, _&&_, cond}
+use mathlib.Core.Bool.{Bool, _&&_, cond, not}
 use lib.ListN.{getD}
 use lib.Dec.{leb, eqb}
 use Rattle.bits.specs.Bits.{field}
@@ -19,7 +19,7 @@ use Rattle.rules.specs.Segments.{Place}
 use Rattle.rules.specs.Prices.{Tech}
 use Rattle.rules.specs.Steps.{Made, Stepped, illegal, legal, step}
 use Rattle.rules.specs.Routings.{Totals, withJoin, withNet}
-use Rattle.plan.specs.Reading.{group, agree}
+use Rattle.plan.specs.Reading.{group}
 use Rattle.tree.specs.Spots.{someUnjoined}
 use Rattle.walker.specs.Entering.{Arrays, enterBy, Gone, goneAt, goneOn}
 
@@ -46,7 +46,7 @@ arraysOf (stopped n p arrays) = arrays
 unfoldable pub judgedBy : (at : ℕ) (last : Bool) (spots : List ℕ) → Stepped → Read Made
 judgedBy at last spots illegal = refused 17 at
 judgedBy at last spots (legal made) = do
-  rule 17 at (agree (eqb (getD spots (made .next .vertex) 0) 2) last)
+  rule 17 at (cond (eqb (getD spots (made .next .vertex) 0) 2) last (not last))
   good made
 
 unfoldable pub judgedMove : (bits : List ℕ) → Tech → View → (spots : List ℕ) → (last : Bool) → (at : ℕ) → Place → Read Made

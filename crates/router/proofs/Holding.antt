@@ -37,7 +37,7 @@ use Rattle.rules.specs.Prices.{Tech, techOf}
 use Rattle.rules.specs.Structs.{lineAt, linesFrom, techBy}
 use Rattle.rules.proofs.Techs.{good-tech}
 use Rattle.walker.specs.Structs.{PlanHeld}
-use Rattle.router.specs.Room.{workNeed, roomFor, withRoom, readWithRoom}
+use Rattle.router.specs.Room.{workNeed, roomFor, readWithRoom}
 use Rattle.router.specs.Held.{HeadHolds, heldOf, JobHeld, roomAnswer}
 use Rattle.router.specs.declared.held.Held.{Held}
 use Rattle.router.specs.declared.held.Room.{Room}
@@ -208,7 +208,7 @@ pub record Roomy (bytes : List ℕ) (j : Job) (map work : List ℕ) : Type 0 whe
 
 -- a job that has room has slices that are long enough
 pub room-roomy : (bytes map work : List ℕ) (j : Job) → readWithRoom bytes map work ≡ good j → Roomy bytes j map work
-unfolding readWithRoom withRoom roomFor
+unfolding readWithRoom roomFor
 room-roomy bytes map work j e =
     let (k, read, ((long, longer), is)) = simp (steps, tests) at e in
     record { read = e; vertices = rw is at long; need = rw is at longer }
@@ -216,7 +216,7 @@ room-roomy bytes map work j e =
 -- a job whose slices are long enough has room
 pub has-room : (bytes map work : List ℕ) {j : Job} → readJob bytes ≡ good j → vertices (j .grid) ≤ length map → workNeed j ≤ length work
     → readWithRoom bytes map work ≡ good j
-unfolding readWithRoom withRoom roomFor
+unfolding readWithRoom roomFor
 has-room bytes map work read long longer = simp (steps, tests) (_, read, ((long, longer), refl))
 
 module _ {bytes occupants : List ℕ} {held : Held} (h : JobHeld bytes occupants held) (map work : List ℕ) {r : Room}
@@ -227,12 +227,12 @@ module _ {bytes occupants : List ℕ} {held : Held} (h : JobHeld bytes occupants
 
   -- one is short
   pub room-short : {n p : ℕ} → r ≡ Short n p → readWithRoom bytes map work ≡ refused n p
-  unfolding readWithRoom withRoom _>>=_ _>>_
+  unfolding readWithRoom _>>=_ _>>_
   room-short e = rw (h .read, answer-short _ (sym answer-is ∙ e)) refl
 
   -- both are long enough
   pub room-enough : r ≡ Enough → Roomy bytes (h .job) map work
-  unfolding readWithRoom withRoom _>>=_ _>>_ roomFor
+  unfolding readWithRoom _>>=_ _>>_ roomFor
   room-enough e =
       let both = answer-enough _ (sym answer-is ∙ e) in
       let (long, longer) = simp (steps, tests) at both in

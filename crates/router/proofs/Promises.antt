@@ -30,7 +30,7 @@ use Rattle.plan.specs.Claim.{Cheapest, ByTies}
 use Rattle.plan.specs.Sizes.{mostJoins, mostBytes}
 use Rattle.plan.proofs.Routed.{routing-read, routing-plan-cheapest, routing-plan-by-ties}
 use Rattle.plan.proofs.Sizes.{plan-fits}
-use Rattle.router.specs.Room.{workNeed, roomFor, withRoom, readWithRoom}
+use Rattle.router.specs.Room.{workNeed, roomFor, readWithRoom}
 use Rattle.router.specs.Replay.{ReplayOutcome, refusedReplay, replayResult, replayRead, replayOf}
 use Rattle.router.specs.Routing.{RoutingOutcome, refusedRouting, totalResult, routingOf, planIn}
 use Rattle.router.specs.Held.{replayLeaves, routingLeaves}
@@ -39,12 +39,12 @@ use Rattle.router.proofs.Ends.{Ends, early, short, whole, routes-ends}
 
 -- a job that has room is the one that was read
 pub room-read : (bytes map work : List ℕ) (j : Job) → readWithRoom bytes map work ≡ good j → readJob bytes ≡ good j
-unfolding readWithRoom withRoom
+unfolding readWithRoom
 room-read bytes map work j e = let (k, read, (tests, is)) = simp steps at e in rw is at read
 
 -- a refusal from 1 to 13 has a number
 pub room-numbered : (bytes map work : List ℕ) → Numbered (readWithRoom bytes map work)
-unfolding readWithRoom withRoom roomFor
+unfolding readWithRoom roomFor
 room-numbered bytes map work =
     bind-numbered _ _ (job-numbered bytes) (λ j.
     then-numbered _ _ (then-numbered _ _ (rule-numbered 12 _ _ (omega arith)) (rule-numbered 13 _ _ (omega arith))) (good-numbered j))

@@ -2,7 +2,7 @@
 -- Specification: section 6.1.
 --     workNeed                  the work need
 --     roomFor                   whether the slices are long enough for the needs
---     withRoom, readWithRoom    a job, or bytes, with slices
+--     readWithRoom              bytes with slices
 use Prim.Native.Nat.{ℕ, _+_, _*_}
 use mathlib.Core.List.{List}
 use lib.ListN.{length}
@@ -21,14 +21,9 @@ roomFor v n map work = do
   rule 12 v (leb v (length map))
   rule 13 n (leb n (length work))
 
--- a job with room, or 12 or 13
-unfoldable pub withRoom : (map work : List ℕ) → Job → Read Job
-withRoom map work j = do
-  roomFor (vertices (j .grid)) (workNeed j) map work
-  good j
-
 -- a refusal from 1 to 13, or the job
 unfoldable pub readWithRoom : (bytes map work : List ℕ) → Read Job
 readWithRoom bytes map work = do
   j ← readJob bytes
-  withRoom map work j
+  roomFor (vertices (j .grid)) (workNeed j) map work
+  good j

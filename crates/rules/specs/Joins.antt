@@ -40,8 +40,8 @@ recordOf Found.none = none
 recordOf (found cost []) = none
 recordOf (found cost (start ∷ moves)) = join start moves cost
 
--- the cheapest from a tree vertex, the start before its moves. A cheapest route comes to no place twice, so it
--- has fewer moves than there are places
+-- the cheapest from a tree vertex, the start before its moves. A cheapest route comes to no place twice, so
+-- it has fewer moves than there are places
 unfoldable pub foundFrom : Tech → View → (tree unjoined : List ℕ) → (v : ℕ) → Found
 foundFrom t view tree unjoined v = cond (member v tree) (before v 0 (cheapestIn (system t view unjoined) (places t) (startAt v))) Found.none
 

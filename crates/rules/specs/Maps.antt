@@ -4,6 +4,7 @@
 use Prim.Native.Nat.{ℕ, zero, suc}
 use mathlib.Core.List.{List, [], _∷_}
 use mathlib.Core.Bool.{cond}
+use lib.Dec.{eqb}
 use Rattle.job.specs.Grid.{vertices}
 use Rattle.job.specs.Job.{Job}
 use Rattle.job.specs.Reading.{onObstacle}
@@ -13,11 +14,7 @@ use Rattle.rules.specs.Views.{member}
 -- the code of a vertex by the metal of the nets numbered from k on, where `code` tells the nets before
 unfoldable pub netCode : (code k : ℕ) → List (List ℕ) → (v : ℕ) → ℕ
 netCode code k [] v = code
-netCode code k (m ∷ ms) v = netCode (cond (member v m) (alone code k) code) (suc k) ms v
-  where
-    alone : ℕ → ℕ → ℕ
-    alone zero n = n
-    alone (suc c) n = 256
+netCode code k (m ∷ ms) v = netCode (cond (member v m) (cond (eqb code 0) k 256) code) (suc k) ms v
 
 unfoldable pub mapCode : Job → (metal : List (List ℕ)) → (v : ℕ) → ℕ
 mapCode j metal v = cond (onObstacle (j .grid) (j .obstacles) (vertexBy (j .grid) v)) 257 (netCode 0 1 metal v)

@@ -50,7 +50,7 @@ code-more code n (m ∷ ms) v h = by (member v m) refl h (code-more code (suc n)
   where
     by : (b : Bool) → member v m ≡ b → (b || any (member v) ms) ≡ true → (any (member v) ms ≡ true → netCode (suc code) (suc n) ms v ≡ 256)
         → netCode (suc code) n (m ∷ ms) v ≡ 256
-    by true e k rest = rw (netCode, e) (code-many (suc n) ms v)
+    by true e k rest = rw (netCode, e, ne-eqb (suc code) 0 (λ z. omega (arith, z))) (code-many (suc n) ms v)
     by false e k rest = rw (netCode, e) (rest k)
 
 -- some net's metal covers it: the code is no number before the first of them

@@ -14,8 +14,8 @@ use mathlib.Core.List.{List, flatMap}
 use lib.ListN.{length}
 use Rattle.bits.specs.Puts.{AllBelow}
 use Rattle.job.specs.Job.{Layer, Obstacle, Net, Job}
-use Rattle.job.specs.Reading.{Head, good, readHead, readTail, readAfterHead, readBits}
-use Rattle.job.specs.Heads.{jobHead}
+use Rattle.job.specs.Reading.{Head, good, readHead, readTail, readAfterHead}
+use Rattle.job.specs.Heads.{readBits, jobHead}
 use Rattle.job.specs.Reading.{obstaclesAt, netsAt, netsWidth}
 use Rattle.job.specs.Packing.{headBits, layerBits, obstacleBits, netBits, jobBits}
 use Rattle.bits.specs.Bits.{groupBits}

@@ -15,7 +15,7 @@ use Rattle.bits.specs.Puts.{AllBelow}
 use Rattle.job.specs.Lists.{any, All}
 use Rattle.job.specs.Grid.{Grid, Vertex, same}
 use Rattle.job.specs.Job.{Obstacle, Net}
-use Rattle.job.specs.Reading.{good, readPin, readPins, readNetHead, readNet, readNets, netWidth}
+use Rattle.job.specs.Reading.{good, readPin, readPins, readNet, readNets, netWidth}
 use Rattle.job.specs.Packing.{vertexBits, boxBits, netBits}
 use Rattle.job.specs.Good.{GoodGrid, GoodPin, GoodNet, allPins}
 use Rattle.job.proofs.Tests.{tests, crosswise}
@@ -86,10 +86,10 @@ module _ (B : List ℕ) (bits : AllBelow 2 B) (g : Grid) (small : GoodGrid g) (o
   -- reading a net
   net-read : (earlier : List Vertex) (at : ℕ) (net : Net)
       → (readNet B g obstacles earlier at ≡ good net) ↔ (Placed B at (netBits net) × (GoodNet g obstacles net × New earlier (net .pins)))
-  unfolding readNet readNetHead
+  unfolding readNet
   net-read earlier at net =
       simp (steps, tests, pins-read, boxes-read B bits g small, net-placed) (
-        λ ((w, some), (pins, (n, (p, (good-pins, new))), (boxes, (m, (q, good-boxes)), e))).
+        λ (w, (some, (pins, (n, (p, (good-pins, new))), (boxes, (m, (q, good-boxes)), e)))).
             let read : Net = record { pins = pins; boxes = boxes } in
             let h = net-head at read .1 (w, (omega arith, (sym m, tt))) in
             rw (← e) (
@@ -98,11 +98,14 @@ module _ (B : List ℕ) (bits : AllBelow 2 B) (g : Grid) (small : GoodGrid g) (o
             ),
         λ ((h, (p, q)), (good-net, new)).
             let r = net-head at net .0 (h, (omega arith, (good-net .boxes, tt))) in (
-              (r .0, omega arith),
+              r .0,
               (
-                net .pins,
-                (omega arith, (p, (good-net .goodPins, new))),
-                (net .boxes, (sym (r .1 .1 .0), (q, good-net .goodBoxes)), refl),
+                omega arith,
+                (
+                  net .pins,
+                  (omega arith, (p, (good-net .goodPins, new))),
+                  (net .boxes, (sym (r .1 .1 .0), (q, good-net .goodBoxes)), refl),
+                ),
               ),
             ),
       )

@@ -12,13 +12,13 @@ use Rattle.bits.specs.Bits.{whole, field}
 use Rattle.job.specs.Lists.{any}
 use Rattle.job.specs.Grid.{Grid, Vertex, vertices, inside, same, vertexNumber}
 use Rattle.job.specs.Job.{Obstacle}
-use Rattle.job.specs.Reading.{Read, good, _>>_, rule, vertexAt, onObstacle, readMany, readPin, readPins, readBox, readNetHead, readNet}
+use Rattle.job.specs.Reading.{Read, good, _>>_, rule, vertexAt, onObstacle, readMany, readPin, readPins, readBox, readNet}
 use Rattle.job.specs.Reading.{netWidth, readNets, netsWidth}
 use Rattle.job.specs.Good.{allPins}
 use Rattle.occupants.specs.Occupants.{Passed, stopped, withOccupants, pinByOccupant, pinAt, pinFrom, pinsFrom, boxesFrom, netFrom, netsFrom, occupantOf, Occupants}
 use Rattle.occupants.proofs.Covering.Following.{Follows, both-stop, both-go, follows-then, follows-end, follows-rule, plain-follows}
 use Rattle.occupants.proofs.Covering.Covered.{any-swap, occupants-alike, occupants-pin}
-use Rattle.occupants.proofs.Covering.Rest.{many-length, then-assoc}
+use Rattle.occupants.proofs.Covering.Rest.{many-length}
 
 module _ (bits : List ℕ) (g : Grid) (small : vertices g ≤ 16384) (obstacles : List Obstacle) where
   -- ---- pins
@@ -76,14 +76,13 @@ module _ (bits : List ℕ) (g : Grid) (small : vertices g ≤ 16384) (obstacles 
   net-follows : (earlier : List Vertex) (at : ℕ) (m : List ℕ) → Occupants g obstacles earlier m
       → Follows (λ net. at + netWidth net) (λ net. Occupants g obstacles (net .pins ++ earlier)) (netFrom bits g at m)
       (readNet bits g obstacles earlier at)
-  unfolding netFrom readNet readNetHead boxesFrom netWidth
+  unfolding netFrom readNet boxesFrom netWidth
   net-follows earlier at m occupants =
-      rw (then-assoc (rule 2 at (whole bits at 8)) (rule 7 at (leb 1 (field bits at 4))))
-      (follows-rule 2 at m (whole bits at 8)
+      follows-rule 2 at m (whole bits at 8)
       (λ h. follows-rule 7 at m (leb 1 (field bits at 4))
       (λ k. follows-then _ _ (pins-follow earlier (suc (field bits at 4)) (at + 8) m occupants)
       (λ pins m′ more. follows-end (λ boxes. record { pins = pins; boxes = boxes }) (boxes-follow (at + 8 + 19 * length pins) m′ more)
-      (λ boxes. omega arith) (λ boxes m″ end. end)))))
+      (λ boxes. omega arith) (λ boxes m″ end. end))))
     where
       boxes-follow : {Claim : List ℕ → Type 0} (start : ℕ) (occupied : List ℕ) → Claim occupied
           → Follows (λ boxes. start + 38 * length boxes) (λ boxes. Claim) (withOccupants occupied (boxesFrom bits g (field bits (at + 4) 4) start))
