@@ -1,7 +1,7 @@
 """All that some names reach: the definitions that they name, those that these name, and so on."""
 
 import re
-from typing import Dict, Iterable, List, NamedTuple, Set, Tuple, Union
+from typing import Dict, Iterable, List, Set, Union
 
 from promises.code import Clause, Code
 from promises.errors import SourceError
@@ -11,18 +11,6 @@ from promises.uses import Uses, clause_uses, definition_uses
 
 Name = Union[Definition, str]
 """A definition, or the full name of something in a library."""
-
-
-class Law(NamedTuple):
-    """Laws prove that what a definition computes is the one answer that another of its file describes."""
-
-    said: str
-    path: str
-    names: Tuple[str, ...]
-
-
-Laws = Dict[Tuple[str, str], Law]
-"""By the path and the name of the definition."""
 
 
 class Reach:
@@ -37,8 +25,8 @@ class Reach:
         return sum(len(one.lines) for one in self.definitions if one.path == path)
 
 
-def follow(tree: Tree, names: Iterable[Name], laws: Laws) -> Reach:
-    """What names reach. A definition with a law is followed by what the law says of it."""
+def follow(tree: Tree, names: Iterable[Name]) -> Reach:
+    """What names reach."""
     reach = Reach()
     fields: Dict[str, str] = {}
     waiting = list(names)
@@ -48,30 +36,18 @@ def follow(tree: Tree, names: Iterable[Name], laws: Laws) -> Reach:
             reach.library.add(name)
         elif name not in reach.definitions:
             reach.definitions.add(name)
-            law = laws.get((name.path, name.name))
-            uses = said_by(tree, name, law) if law else uses_of(tree, name)
+            uses = uses_of(tree, name)
             fields.update(dict.fromkeys(uses.fields, uses.where))
             waiting += uses.names
     check_fields(reach, fields)
     return reach
 
 
-def said_by(tree: Tree, definition: Definition, law: Law) -> Uses:
-    """In place of what a definition names, the one that laws prove to say what it gives."""
-    proofs = (tree.root / law.path).read_text(encoding="utf-8")
-    for name in law.names:
-        if not re.search(rf"^ *pub {re.escape(name)} :", proofs, re.MULTILINE):
-            raise SourceError(f"{law.path}: there is no law {name}")
-    uses = Uses(tree.scope(definition.path), definition.path)
-    uses.names.append(tree.file(definition.path).definitions[law.said])
-    return uses
-
-
-def follow_clause(tree: Tree, path: str, clause: Clause, laws: Laws) -> List[Reach]:
+def follow_clause(tree: Tree, path: str, clause: Clause) -> List[Reach]:
     """What each name of a clause reaches, the type of the function's result among them."""
     uses = clause_uses(clause, tree.scope(path), path)
     result = tree.file(path).types.get(clause.result)
-    apart = [follow(tree, [name], laws) for name in [*uses.names, *([result] if result else [])]]
+    apart = [follow(tree, [name]) for name in [*uses.names, *([result] if result else [])]]
     check_fields(union(apart), dict.fromkeys(uses.fields, uses.where))
     return apart
 

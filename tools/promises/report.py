@@ -4,7 +4,7 @@ from pathlib import Path
 from typing import Dict, Iterator, List, Sequence, Set, Tuple
 
 from promises.errors import SourceError
-from promises.follow import Law, Laws, Reach, follow_clause, union
+from promises.follow import Reach, follow_clause, union
 from promises.scope import Tree
 from promises.source import Definition, Source
 
@@ -17,21 +17,15 @@ PROGRAM = {"line_of": "crates/maizespell/src/line.rt"}
 Claims = Sequence[Tuple[str, str]]
 CLAIMS = (("crates/plan/specs/Claim.antt", "Cheapest"), ("crates/plan/specs/Claim.antt", "ByTies"))
 """A word of a promise that leads to one of these is the claim, or part of it."""
-JOINS = "crates/rules/specs/Joins.antt"
-LAWS = {(JOINS, "joinOf"): Law("IsJoin", "crates/rules/proofs/Joins.antt", ("join-is", "join-only"))}
-"""Nobody has to believe how `joinOf` computes: it gives the one record of which `IsJoin` holds."""
 COLUMNS = ("claim", "promise", "calls", "all")
 
 
 class Promises:
     """What is reached by the claim, by the promises that make it, by the library's calls, and by all."""
 
-    def __init__(
-        self, root: Path, calls: Dict[str, str], program: Dict[str, str], claims: Claims, laws: Laws
-    ) -> None:
+    def __init__(self, root: Path, calls: Dict[str, str], program: Dict[str, str], claims: Claims) -> None:
         self.tree = Tree(root)
         self.claims = claims
-        self.laws = laws
         in_calls = [reach for function, path in calls.items() for reach in self.clauses(function, path)]
         others = [reach for function, path in program.items() for reach in self.clauses(function, path)]
         claiming = [apart for apart in [*in_calls, *others] if any(map(self.claimed, apart))]
@@ -50,7 +44,7 @@ class Promises:
         clauses = [one for one in self.tree.file(path).clauses if one.function == function]
         if not clauses:
             raise SourceError(f"{path}: no promise of {function}")
-        return [follow_clause(self.tree, path, clause, self.laws) for clause in clauses]
+        return [follow_clause(self.tree, path, clause) for clause in clauses]
 
     def claimed(self, reach: Reach) -> bool:
         """Whether a word that reaches so much makes the claim."""

@@ -8,8 +8,7 @@ from pathlib import Path
 
 from support import ROOT, TOOLS
 from promises.errors import SourceError
-from promises.follow import Law
-from promises.report import CALLS, CLAIMS, LAWS, PROGRAM, Promises, in_order, library, table, unreached
+from promises.report import CALLS, CLAIMS, PROGRAM, Promises, in_order, library, table, unreached
 
 FILES = {
     "crates/a/src/grid.rt": """
@@ -49,10 +48,6 @@ unused n = n
 unfoldable pub rowsOf : GridStruct → ℕ
 rowsOf g = g .rows
 """,
-    "crates/a/proofs/Laws.antt": """
-pub rows-of : Side → Side
-rows-of s = s
-""",
     "crates/b/specs/Claim.antt": """
 use Prim.Native.Nat.{ℕ}
 use mathlib.Core.List.{List}
@@ -79,12 +74,11 @@ pub fn call(xs: &[u8], given: Grid) -> usize
 }
 """,
 }
-BASE = "crates/a/specs/Base.antt"
 CALL = {"call": "crates/b/src/call.rt"}
 BEST = (("crates/b/specs/Claim.antt", "Best"),)
 
 
-def followed(laws=None, **changed: str) -> Promises:
+def followed(**changed: str) -> Promises:
     """The small tree's promises, with words of its claim changed."""
     with tempfile.TemporaryDirectory() as folder:
         for path, text in FILES.items():
@@ -92,7 +86,7 @@ def followed(laws=None, **changed: str) -> Promises:
                 text = text.replace(word, other)
             (Path(folder) / path).parent.mkdir(parents=True, exist_ok=True)
             (Path(folder) / path).write_text(text, encoding="utf-8")
-        return Promises(Path(folder), CALL, {}, BEST, laws or {})
+        return Promises(Path(folder), CALL, {}, BEST)
 
 
 class SmallTree(unittest.TestCase):
@@ -119,15 +113,6 @@ class SmallTree(unittest.TestCase):
     def test_a_constructor_belongs_to_its_type(self):
         self.assertNotIn("Side", " ".join(unreached(followed(**{"length n": "length left"}))))
 
-    def test_a_law_stands_in_for_a_definition(self):
-        law = Law("Side", "crates/a/proofs/Laws.antt", ("rows-of",))
-        promises = followed({(BASE, "rowsOf"): law})
-        self.assertEqual(promises.total("calls"), 17)
-        self.assertEqual(promises.total("calls", ".rt"), 0)
-        with self.assertRaises(SourceError) as caught:
-            followed({(BASE, "rowsOf"): law._replace(names=("rows",))})
-        self.assertEqual(str(caught.exception), "crates/a/proofs/Laws.antt: there is no law rows")
-
     def test_library_names(self):
         self.assertEqual(
             list(library(followed())),
@@ -148,7 +133,7 @@ class SmallTree(unittest.TestCase):
 
 class RealTree(unittest.TestCase):
     def test_it_resolves(self):
-        promises = Promises(ROOT, CALLS, PROGRAM, CLAIMS, LAWS)
+        promises = Promises(ROOT, CALLS, PROGRAM, CLAIMS)
         totals = [promises.total(column) for column in ("claim", "promise", "calls", "all")]
         self.assertEqual(totals, sorted(totals))
         self.assertGreater(totals[0], 0)
