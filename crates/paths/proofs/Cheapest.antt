@@ -35,6 +35,10 @@
 --     lead-keeps, lowest-lead, leads-follow     so leads are followed as a table is
 --     leads-best, leads-join, leads-foremost    and the join by leads is the join by a table, the one that is
 --                                               taken
+-- By trying every list of so many moves (specs/Finding):
+--     chosen-in                                 what is found is the first of the cheapest routes that have
+--                                               no more moves
+--     found-best                                with as many moves as places, it is what a table tells
 -- Orders of move lists and of joins:
 --     before-irrefl, before-trans, before-total, ahead-irrefl, ahead-trans, ahead-total
 -- Not here: one move of `follow` (Following, Lowest) and of `followLeads` (FollowLeads), the test of a move
@@ -54,6 +58,8 @@ pub use Rattle.paths.proofs.Tables.{table-bounds, table-dist, dist-tabl
 pub use Rattle.paths.proofs.First.{follow-route, follow-first, follow-short}
 pub use Rattle.paths.proofs.Alike.{follow-same}
 pub use Rattle.paths.proofs.Orders.{before-irrefl, before-trans, before-total, ahead-irrefl, ahead-trans, ahead-total}
+pub use Rattle.paths.proofs.Finding.{chosen-in}
+pub use Rattle.paths.proofs.FoundTable.{found-best}
 pub use Rattle.paths.proofs.Joins.{start-least, start-none, start-dist, start-first, start-foremost, foremost-only}
 pub use Rattle.paths.proofs.Forward.{one-bounds, forward-least, forward-some}
 pub use Rattle.paths.proofs.OnBest.{keeps-leads, leads-keeps, on-leads, leads-on, start-on, on-start}

@@ -12,7 +12,7 @@ use lib.Dec.{ltb}
 use Rattle.paths.specs.Systems.{System}
 use Rattle.paths.specs.Rivals.{Before}
 use Rattle.paths.specs.Costs.{Cost, fin, inf}
-use Rattle.paths.specs.Cheapests.{Found, none, found, cheaper, cheapestOf, before, cheapestIn}
+use Rattle.paths.specs.Finding.{Found, none, found, cheaper, cheapestOf, before, cheapestIn}
 use Rattle.paths.specs.Distances.{follow}
 use Rattle.paths.specs.Tables.{Lawful, Table}
 use Rattle.paths.specs.Starts.{Choice, orNext, best, Starts, startCost}
@@ -21,7 +21,7 @@ use Rattle.paths.proofs.Following.{follow-goal}
 use Rattle.paths.proofs.Tables.{table-bounds}
 use Rattle.paths.proofs.First.{follow-route, follow-first, follow-short}
 use Rattle.paths.proofs.Orders.{before-irrefl, before-trans}
-use Rattle.paths.proofs.Cheapests.{Earlier, ChosenIn, noRoute, aRoute, at-goal, chosen-in}
+use Rattle.paths.proofs.Finding.{Earlier, ChosenIn, noRoute, aRoute, at-goal, chosen-in}
 
 -- a cost with moves, or none
 unfoldable pub foundAt : Cost → List ℕ → Found

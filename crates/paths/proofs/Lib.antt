@@ -19,5 +19,5 @@ pub mod Leads
 pub mod FollowLeads
 pub mod JoinLeads
 pub mod Cheapest
-pub mod Cheapests
+pub mod Finding
 pub mod FoundTable

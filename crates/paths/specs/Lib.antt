@@ -1,7 +1,7 @@
 pub mod Systems
 pub mod Costs
 pub mod Rivals
-pub mod Cheapests
+pub mod Finding
 pub mod Distances
 pub mod Starts
 pub mod Forward

@@ -11,7 +11,7 @@ use mathlib.Core.Bool.{cond}
 use Rattle.job.specs.Grid.{vertices}
 use Rattle.job.specs.Job.{largestMinLength}
 use Rattle.paths.specs.Rivals.{Join, Ahead}
-use Rattle.paths.specs.Cheapests.{Found, found, cheapestOf, before, cheapestIn}
+use Rattle.paths.specs.Finding.{Found, found, cheapestOf, before, cheapestIn}
 use Rattle.rules.specs.Views.{View, member}
 use Rattle.rules.specs.Prices.{Tech}
 use Rattle.rules.specs.Walks.{system, startAt, Route}

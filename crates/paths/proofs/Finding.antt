@@ -14,7 +14,7 @@ use lib.Dec.{ltb}
 use borrow.Author.Tests.{ltb-true, ltb-false}
 use Rattle.paths.specs.Systems.{Step, blocked, to, System}
 use Rattle.paths.specs.Rivals.{Route, enters, walks, Before, lower, later}
-use Rattle.paths.specs.Cheapests.{Found, none, found, cheaper, cheapestOf, before, onward, cheapestIn}
+use Rattle.paths.specs.Finding.{Found, none, found, cheaper, cheapestOf, before, onward, cheapestIn}
 use Rattle.paths.proofs.Orders.{before-trans}
 
 -- ---- the order
