@@ -99,9 +99,9 @@ struct maizespell_routing_result {
 
 /* Routes a job. The needs of map and work are those that sizing gives. How many bytes the plan needs is known
  * only after routing. With joins the number of all pins less that of nets, and work as sizing answers, it has
- * at most (joins x (work + 78) + 7) / 8 bytes, most often far fewer. Lend a guess first, such as 5 x job_len +
- * vertices, which is enough for most jobs, and where it is refused by 14, call again with the place's number
- * of bytes.
+ * at most (joins x (work + 78) + 7) / 8 bytes, most often far fewer. Lend a guess first, such as
+ * 5 x job_len + vertices, which is enough for most jobs, and where it is refused by 14, call again with the
+ * place's number of bytes.
  *
  * After success the needed part of the map holds the codes above, and the needed part of work is zero. After
  * 14 the needed parts of map and work and the whole plan slice are zero. After 1 to 13 every slice is as

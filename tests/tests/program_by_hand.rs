@@ -17,7 +17,7 @@ fn lines() -> BTreeMap<String, String> {
 }
 
 #[test]
-fn a_is_the_line_of_the_document() {
+fn a_is_the_line_of_the_specification() {
     assert_eq!(line(&marked::a().pack()), A);
 }
 

@@ -56,7 +56,7 @@ fn generated_jobs_get_their_lines() {
 
 /// The specification's job and line, through a pipe that gives the bytes in two parts.
 #[test]
-fn a_gets_the_line_of_the_document_through_a_pipe() {
+fn a_gets_the_line_of_the_specification_through_a_pipe() {
     let mut command = Command::new(program());
     command.stdin(Stdio::piped()).stdout(Stdio::piped());
     command.stderr(Stdio::piped());

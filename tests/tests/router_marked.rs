@@ -55,12 +55,12 @@ fn plans_of_marked_jobs_are_replayed() {
 }
 
 #[test]
-fn a_has_the_plan_of_the_document() {
+fn a_has_the_plan_of_the_specification() {
     assert_eq!(pack(&routed(&marked::a()).records), A_PLAN);
 }
 
 #[test]
-fn b_and_h_have_the_moves_of_the_document() {
+fn b_and_h_have_the_moves_of_the_specification() {
     let b = vec![High, High, High, Up, High, Down];
     assert_eq!(only_join(&marked::b()), (vertex(0, 0, 0), b));
     let h = vec![Up, Low, Low, Down, Up, High, High, High, Up];

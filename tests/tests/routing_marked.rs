@@ -40,13 +40,13 @@ fn marked_jobs_have_the_totals_found_by_hand() {
 }
 
 #[test]
-fn a_has_the_plan_of_the_document() {
+fn a_has_the_plan_of_the_specification() {
     let routed = routed_by(ROUTING, &marked::a());
     assert_eq!(pack(&routed.records), A_PLAN);
 }
 
 #[test]
-fn b_and_h_have_the_moves_of_the_document() {
+fn b_and_h_have_the_moves_of_the_specification() {
     assert_eq!(moves(&marked::b()), [High, High, High, Up, High, Down]);
     let h = [Up, Low, Low, Down, Up, High, High, High, Up];
     assert_eq!(moves(&marked::h()), h);

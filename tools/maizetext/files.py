@@ -45,7 +45,7 @@ def read_file(path: str) -> bytes:
 
 
 def is_text(data: bytes) -> bool:
-    """Whether a job is in its text form. The first byte of a good job's bytes is a control character, 10 to 1F."""
+    """Whether a job is in its text form. A good job's first byte is a control character, 10 to 1F."""
     return not CONTROL.search(data)
 
 
@@ -104,7 +104,7 @@ def plan_of_line(path: str, data: bytes) -> Optional[bytes]:
 
 
 def plan_of_hexadecimal(path: str, data: bytes) -> Optional[bytes]:
-    """The plan that digits in hexadecimal write, small or capital, with or without blanks between bytes; or none.
+    """The plan that hexadecimal digits write, small or capital, with or without blanks between bytes; or none.
 
     What reads as such is taken as one. A plan's own bytes hardly do: without a join they are zero, and a join's
     count of moves, 20 bits of such characters, would be over a thousand.

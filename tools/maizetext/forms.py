@@ -1,4 +1,4 @@
-"""What a line of the text form may say: a form of keywords and fields, such as `obstacle LAYER ROW COLUMN run RUN`."""
+"""What a line of the text form may say: keywords and fields, as in `obstacle LAYER ROW COLUMN run RUN`."""
 
 from dataclasses import dataclass
 from typing import Any, Callable, Optional
@@ -11,7 +11,7 @@ Parse = Callable[[str], Optional[Any]]
 
 @dataclass(frozen=True)
 class Field:
-    """How a word is read, and in words what is expected there. A word that is not such a thing reads as none."""
+    """How a word is read, and in words what is expected there. A word that is no such thing reads as none."""
 
     expected: str
     parse: Parse

@@ -60,7 +60,7 @@ def guides(job: Job, panel: Panel) -> Iterator[str]:
 
 
 def guide(panel: Panel, net: int, box: Box) -> str:
-    """A box in its net's colour; neighbouring nets are drawn in by different widths, so that frames don't hide each other."""
+    """A box in its net's colour, drawn in by a width of its own, so that neighbours' frames stay visible."""
     colour = net_colour(net)
     return block(panel, "guide", box.low, box.high, 1 + net % 4 * panel.cell / 14, fill=colour, stroke=colour)
 

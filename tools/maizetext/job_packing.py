@@ -70,7 +70,7 @@ def put_box(bits: BitWriter, box: Box) -> None:
 
 
 def group_starts(job: Job) -> Iterator[int]:
-    """The first bit of each group, in order: head, layer lines, obstacles, and each net's head, pins and boxes."""
+    """The first bit of each group, in order: head, layer lines, obstacles, each net's head, pins and boxes."""
     at = 0
     for width in group_widths(job):
         yield at

@@ -21,7 +21,7 @@ class Standing:
         self._own = metal[net]
 
     def join(self, moves: list[Made]) -> None:
-        """The join's vertices enter the tree; its extensions are metal, and by themselves no starting point."""
+        """The join's vertices enter the tree; its extensions are metal, by themselves no starting point."""
         entered: set[Vertex] = {made.place.vertex for made in moves}
         self.tree |= entered
         self._own |= entered.union(*(made.over.laid for made in moves))

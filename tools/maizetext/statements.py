@@ -26,7 +26,7 @@ def shown(word: str) -> str:
 
 
 class Statements:
-    """A cursor over a text's statements that knows the text's file. It takes no line before it is asked for."""
+    """A cursor over a text's statements that knows the text's file. It takes a line when it is asked for."""
 
     def __init__(self, lines: Iterable[str], file: str) -> None:
         self._lines = enumerate(lines, start=1)

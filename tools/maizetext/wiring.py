@@ -80,7 +80,7 @@ def metal_lines(trace: Trace, panel: Panel) -> Iterator[str]:
 
 
 def via_marks(trace: Trace, panel: Panel, pins: set[Vertex]) -> Iterator[str]:
-    """A ring for a via to the layer above, then a dot for one to the layer below, so that a dot in a ring is both."""
+    """A ring for a via to the layer above, then a dot for one below, so that a dot in a ring is both."""
     for net, lower in vias(trace):
         if lower.layer == panel.layer:
             x, y, size = via_spot(panel, lower, pins)

@@ -75,7 +75,7 @@ def reading_order(tree: Tree, paths: Set[str]) -> List[str]:
 
 
 def table(promises: Promises) -> Iterator[str]:
-    """A row for each file of definitions: what each column reaches of it, and all its lines; then the sums."""
+    """A row for each file of definitions: what each column reaches of it, all its lines; then the sums."""
     row = "{:<36}" + "{:>8}" * 5
     specs = [path for path in promises.files if path.endswith(".antt")]
     yield row.format("file", *COLUMNS, "of")
@@ -88,7 +88,7 @@ def table(promises: Promises) -> Iterator[str]:
 
 
 def in_order(promises: Promises) -> Iterator[str]:
-    """The definitions that are reached, in reading order, each with its lines; an asterisk marks the claim's."""
+    """The definitions that are reached, in reading order, with their lines; an asterisk marks the claim's."""
     for path in promises.files:
         yield path
         for one in definitions_of(promises.tree, path):

@@ -44,7 +44,7 @@ class Tree:
         return self.scopes[path]
 
     def place(self, module: str) -> Optional[Tuple[str, str]]:
-        """The file that a module's path names, and the declared type in it if it names one; none: a library's."""
+        """The file that a module's path names, and the declared type if it names one; none: a library's."""
         first, *rest = module.split(".")
         crate = first.split("·")[1] if "·" in first else ""
         if not crate or not (self.root / "crates" / crate).is_dir():
@@ -76,7 +76,7 @@ class Tree:
 
 
 def own_names(source: Source) -> Iterator[Tuple[str, Found]]:
-    """What a file defines. A constructor that two types have is left out: it must be written with its type."""
+    """What a file defines. A constructor of two types is left out: it must be written with its type."""
     owners: Dict[str, List[Definition]] = {}
     for one in source.definitions.values():
         for part in one.parts if one.kind == "data" else ():

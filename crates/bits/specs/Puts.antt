@@ -19,7 +19,7 @@ unfoldable pub putBits : (bytes : List ℕ) (at : ℕ) (bits : List ℕ) → Lis
 putBits bytes at [] = bytes
 putBits bytes at (b ∷ bs) = putBits (putBit bytes at b) (suc at) bs
 
--- every one is a bit; every one is a byte
+-- every number is below the bound
 unfoldable pub AllBelow : (bound : ℕ) → List ℕ → Type 0
 AllBelow bound [] = Unit
 AllBelow bound (x ∷ xs) = (x < bound) × AllBelow bound xs

@@ -10,7 +10,7 @@ use native.Mathlib.Nat.{add-zero}
 use native.Mathlib.Omega.{arith}
 use lib.ListN.{length, take, set, length-append}
 use lib.Seq.{sets, sets-eq, set-comm, length-take-le}
-use Rattle.lines.specs.Put.{Written}
+use Rattle.lines.specs.Written.{Written}
 use Rattle.lines.specs.Puts.{PutAt}
 
 pub sets-append : (l : List ℕ) (i : ℕ) (xs ys : List ℕ) → sets l i (xs ++ ys) ≡ sets (sets l i xs) (i + length xs) ys

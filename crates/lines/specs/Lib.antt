@@ -1,4 +1,4 @@
 pub mod Lines
-pub mod Put
+pub mod Written
 pub mod Values
 pub mod Puts

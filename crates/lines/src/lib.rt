@@ -3,7 +3,7 @@
 ghost use Prim.Native.Nat.{_+_, _*_, _≤_};
 ghost use lib.ListN.{length, take};
 ghost use Rattle.lines.specs.Lines.{hexLine, refusedLine, tooLargeLine};
-ghost use Rattle.lines.specs.Put.{Written};
+ghost use Rattle.lines.specs.Written.{Written};
 
 mod hexadecimal;
 mod words;

@@ -2,7 +2,7 @@
 ghost use Prim.Native.Nat.{_≤_};
 ghost use lib.ListN.{length};
 ghost use Rattle.io.specs.Counts.{Counts};
-ghost use Rattle.lines.specs.Put.{Written};
+ghost use Rattle.lines.specs.Written.{Written};
 ghost use Rattle.maizespell.specs.Line.{routedLine, goodLine, lineOf};
 use lines::put_hex_line;
 use lines::put_refused_line;

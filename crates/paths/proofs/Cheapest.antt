@@ -11,8 +11,6 @@
 --                                                 and `dist` is a table
 --     follow-route, follow-first, follow-short    following a table is a route at its cost, the first of
 --                                                 them, of fewer than `size` moves
---     follow-same, follow-dist                    tables that agree are followed alike, so a table is
---                                                 followed as `dist` is
 --     route-cost                                  what a route costs at most
 -- From numbered starts:
 --     start-least, start-none                       no rival from a start costs less than the best; where no
@@ -36,7 +34,7 @@
 --     leads-best, leads-join, leads-foremost    and the join by leads is the join by a table, the one that is
 --                                               taken
 -- By trying every list of so many moves (specs/Finding):
---     chosen-in                                 what is found is the first of the cheapest routes that have
+--     earliest-in                                 what is found is the first of the cheapest routes that have
 --                                               no more moves
 --     found-best                                with as many moves as places, it is what a table tells
 -- Orders of move lists and of joins:
@@ -47,18 +45,17 @@ use Prim.Native.Nat.{ℕ}
 use mathlib.Core.Path.{_≡_}
 use mathlib.Core.List.{List}
 use Rattle.paths.specs.Systems.{System}
-use Rattle.paths.specs.Tables.{Lawful, within, Table}
+use Rattle.paths.specs.Tables.{Lawful, within}
 use Rattle.paths.specs.Rivals.{Rival}
-use Rattle.paths.specs.Distances.{dist, follow}
-use Rattle.paths.specs.Costs.{Cost, fin, inf}
+use Rattle.paths.specs.Distances.{dist}
+use Rattle.paths.specs.Costs.{fin, inf}
 pub use Rattle.paths.proofs.Routes.{route-rival, route-cost}
 pub use Rattle.paths.proofs.Reach.{dist-bounds, dist-reached}
 pub use Rattle.paths.proofs.Loops.{shorter}
 pub use Rattle.paths.proofs.Tables.{table-bounds, table-dist, dist-table}
 pub use Rattle.paths.proofs.First.{follow-route, follow-first, follow-short}
-pub use Rattle.paths.proofs.Alike.{follow-same}
 pub use Rattle.paths.proofs.Orders.{before-irrefl, before-trans, before-total, ahead-irrefl, ahead-trans, ahead-total}
-pub use Rattle.paths.proofs.Finding.{chosen-in}
+pub use Rattle.paths.proofs.Finding.{earliest-in}
 pub use Rattle.paths.proofs.FoundTable.{found-best}
 pub use Rattle.paths.proofs.Joins.{start-least, start-none, start-dist, start-first, start-foremost, foremost-only}
 pub use Rattle.paths.proofs.Forward.{one-bounds, forward-least, forward-some}
@@ -76,8 +73,3 @@ module _ {S : System} {Good : S .Place → Type 0} {code : S .Place → ℕ} {si
   -- where dist is infinite there is no rival
   pub nothing : {s : S .Place} {ms : List ℕ} {c : ℕ} → Good s → dist S size s ≡ inf → Rival S s ms c → ⊥
   nothing good e r = rw e at (dist-least good r)
-
-  module _ {D : S .Place → Cost} (T : Table S Good D) where
-    -- a table is followed as dist is
-    pub follow-dist : {s : S .Place} (k : ℕ) → Good s → follow S D k s ≡ follow S (dist S size) k s
-    follow-dist k good = follow-same laws (λ s fine. table-dist laws T fine) T k good

@@ -1,7 +1,7 @@
 -- What is found is the cheapest route, the first by move number among equals.
 --     Earlier, earlier-trans           a cost and moves that come no later than others
---     Heads, Chosen, chosen            the cheapest of several, each of which begins with its own number
---     ChosenIn, at-goal, chosen-in     the cheapest route of at most so many moves from a place
+--     Heads, Earliest, earliest            the cheapest of several, each of which begins with its own number
+--     EarliestIn, at-goal, earliest-in     the cheapest route of at most so many moves from a place
 use Prim.Native.Nat.{ℕ, zero, suc, _+_, _≤_, _<_}
 use native.Mathlib.Omega.{arith}
 use native.Mathlib.Decide.{ℕ-discrete}
@@ -56,10 +56,10 @@ abbrev pub Heads : (ℕ → Found) → Type 0
 Heads E = (m c : ℕ) (xs : List ℕ) → E m ≡ found c xs → (ys : List ℕ) × (xs ≡ m ∷ ys)
 
 -- none of the first n found anything; or this one did, and no other earlier
-pub data Chosen (E : ℕ → Found) (n : ℕ) : Found → Type 0 where
-  nothing : ((m : ℕ) → m < n → E m ≡ none) → Chosen E n none
+pub data Earliest (E : ℕ → Found) (n : ℕ) : Found → Type 0 where
+  nothing : ((m : ℕ) → m < n → E m ≡ none) → Earliest E n none
   this : {c : ℕ} {xs : List ℕ} (m : ℕ) → m < n → E m ≡ found c xs
-      → ((l : ℕ) → l < n → (d : ℕ) (ys : List ℕ) → E l ≡ found d ys → Earlier c xs d ys) → Chosen E n (found c xs)
+      → ((l : ℕ) → l < n → (d : ℕ) (ys : List ℕ) → E l ≡ found d ys → Earlier c xs d ys) → Earliest E n (found c xs)
 
 -- below the next number: below this one, or it
 below-next : (m n : ℕ) → m < suc n → (m ≡ n) ⊎ (m < n)
@@ -78,28 +78,28 @@ module _ (E : ℕ → Found) (heads : Heads E) (n : ℕ) where
       rw (is, are) (lower h)
 
   -- one more
-  chosen-next : (a b : Found) → E n ≡ b → Chosen E n a → Chosen E (suc n) (cheaper a b)
+  earliest-next : (a b : Found) → E n ≡ b → Earliest E n a → Earliest E (suc n) (cheaper a b)
   unfolding cheaper
-  chosen-next none none e (nothing empty) = nothing (λ m h. by m (below-next m n h))
+  earliest-next none none e (nothing empty) = nothing (λ m h. by m (below-next m n h))
     where
       by : (m : ℕ) → (m ≡ n) ⊎ (m < n) → E m ≡ none
       by m (inl same) = ap E same ∙ e
       by m (inr below) = empty m below
-  chosen-next none (found d ns) e (nothing empty) = this n (omega arith) e (λ l h x ys is. by l x ys is (below-next l n h))
+  earliest-next none (found d ns) e (nothing empty) = this n (omega arith) e (λ l h x ys is. by l x ys is (below-next l n h))
     where
       by : (l x : ℕ) (ys : List ℕ) → E l ≡ found x ys → (l ≡ n) ⊎ (l < n) → Earlier d ns x ys
       by l x ys is (inl same) =
           let both : found d ns ≡ found x ys = sym e ∙ ap E (sym same) ∙ is in
           earlier-same (cc) (cc)
       by l x ys is (inr below) = none-found (sym (empty l below) ∙ is)
-  chosen-next (found c ms) none e (this m below em best) = this m (omega arith) em (λ l h x ys is. by l x ys is (below-next l n h))
+  earliest-next (found c ms) none e (this m below em best) = this m (omega arith) em (λ l h x ys is. by l x ys is (below-next l n h))
     where
       by : (l x : ℕ) (ys : List ℕ) → E l ≡ found x ys → (l ≡ n) ⊎ (l < n) → Earlier c ms x ys
       by l x ys is (inl same) = none-found (sym e ∙ ap E (sym same) ∙ is)
       by l x ys is (inr less) = best l less x ys is
-  chosen-next (found c ms) (found d ns) e (this m below em best) = test (ltb d c) refl
+  earliest-next (found c ms) (found d ns) e (this m below em best) = test (ltb d c) refl
     where
-      test : (t : Bool) → ltb d c ≡ t → Chosen E (suc n) (cond t (found d ns) (found c ms))
+      test : (t : Bool) → ltb d c ≡ t → Earliest E (suc n) (cond t (found d ns) (found c ms))
       test true lt = this n (omega arith) e (λ l h x ys is. by l x ys is (below-next l n h))
         where
           by : (l x : ℕ) (ys : List ℕ) → E l ≡ found x ys → (l ≡ n) ⊎ (l < n) → Earlier d ns x ys
@@ -120,19 +120,19 @@ module _ (E : ℕ → Found) (heads : Heads E) (n : ℕ) where
           by l x ys is (inr less) = best l less x ys is
 
 -- of all
-pub chosen : (E : ℕ → Found) → Heads E → (n : ℕ) → Chosen E n (cheapestOf E n)
+pub earliest : (E : ℕ → Found) → Heads E → (n : ℕ) → Earliest E n (cheapestOf E n)
 unfolding cheapestOf
-chosen E heads zero = nothing (λ m h. absurd (omega (arith, h)))
-chosen E heads (suc n) = chosen-next E heads n (cheapestOf E n) (E n) refl (chosen E heads n)
+earliest E heads zero = nothing (λ m h. absurd (omega (arith, h)))
+earliest E heads (suc n) = earliest-next E heads n (cheapestOf E n) (E n) refl (earliest E heads n)
 
 -- ---- the cheapest route
 
 module _ (S : System) where
   -- no route of at most k moves from a place; or this is one, and no other is earlier
-  pub data ChosenIn (k : ℕ) (s : S .Place) : Found → Type 0 where
-    noRoute : ((ns : List ℕ) (d : ℕ) → Route S s ns d → length ns ≤ k → ⊥) → ChosenIn k s none
+  pub data EarliestIn (k : ℕ) (s : S .Place) : Found → Type 0 where
+    noRoute : ((ns : List ℕ) (d : ℕ) → Route S s ns d → length ns ≤ k → ⊥) → EarliestIn k s none
     aRoute : {c : ℕ} {ms : List ℕ} → Route S s ms c → ((ns : List ℕ) (d : ℕ) → Route S s ns d → length ns ≤ k → Earlier c ms d ns)
-        → ChosenIn k s (found c ms)
+        → EarliestIn k s (found c ms)
 
   -- at a goal nothing is left
   pub at-goal : (k : ℕ) (s : S .Place) → S .goal s ≡ true → cheapestIn S k s ≡ found 0 []
@@ -140,7 +140,7 @@ module _ (S : System) where
   at-goal zero s g = rw g refl
   at-goal (suc k) s g = rw g refl
 
-  module _ (k : ℕ) (s : S .Place) (from : (t : S .Place) → S .goal t ≡ false → ChosenIn k t (cheapestIn S k t)) where
+  module _ (k : ℕ) (s : S .Place) (from : (t : S .Place) → S .goal t ≡ false → EarliestIn k t (cheapestIn S k t)) where
     -- by each move
     abbrev by-move : ℕ → Found
     by-move m = onward m (cheapestIn S k) (S .step s m)
@@ -171,7 +171,7 @@ module _ (S : System) where
             rw (← moves, ← cost) (enters (record { known = known; leads = leads }) g)
         on p t leads false g e = way (cheapestIn S k t) (from t g) e
           where
-            way : (f : Found) → ChosenIn k t f → before m p f ≡ found c xs → Route S s xs c
+            way : (f : Found) → EarliestIn k t f → before m p f ≡ found c xs → Route S s xs c
             way none (noRoute empty) is = none-found is
             way (found d ys) (aRoute route best) is =
                 let cost : p + d ≡ c = cc in
@@ -193,28 +193,28 @@ module _ (S : System) where
     )
     route-move (walks {t = t} {m = m} {p = p} {c = d} {ms = ns} legal no-goal r) short = way (cheapestIn S k t) refl (from t no-goal)
       where
-        way : (f : Found) → cheapestIn S k t ≡ f → ChosenIn k t f
+        way : (f : Found) → cheapestIn S k t ≡ f → EarliestIn k t f
             → (l : ℕ) × (l < S .moves) × ((c : ℕ) × ((xs : List ℕ) × ((by-move l ≡ found c xs) × Earlier c xs (p + d) (m ∷ ns))))
         way none e (noRoute empty) = absurd (empty ns d r (omega (arith, short)))
         way (found c ms) e (aRoute route best) =
             (m, legal .known, (p + c, (m ∷ ms, (rw (legal .leads, e) refl, earlier-before m p (best ns d r (omega (arith, short)))))))
 
     -- so of all moves
-    moves-chosen : (f : Found) → Chosen by-move (S .moves) f → ChosenIn (suc k) s f
-    moves-chosen none (nothing empty) =
+    moves-earliest : (f : Found) → Earliest by-move (S .moves) f → EarliestIn (suc k) s f
+    moves-earliest none (nothing empty) =
         noRoute (λ ns d r short. let (m, known, (c, (xs, (e, earlier)))) = route-move r short in none-found (sym (empty m known) ∙ e))
-    moves-chosen (found c xs) (this m known e best) =
+    moves-earliest (found c xs) (this m known e best) =
         aRoute (move-route known e) (λ ns d r short.
         let (l, below, (x, (ys, (is, earlier)))) = route-move r short in
         earlier-trans (best l below x ys is) earlier)
 
   -- what is found in at most k moves, from a place that is no goal
-  pub chosen-in : (k : ℕ) (s : S .Place) → S .goal s ≡ false → ChosenIn k s (cheapestIn S k s)
+  pub earliest-in : (k : ℕ) (s : S .Place) → S .goal s ≡ false → EarliestIn k s (cheapestIn S k s)
   unfolding cheapestIn
-  chosen-in zero s g = rw g (noRoute (λ ns d r short. some r short))
+  earliest-in zero s g = rw g (noRoute (λ ns d r short. some r short))
     where
       some : {ns : List ℕ} {d : ℕ} → Route S s ns d → length ns ≤ 0 → ⊥
       some (enters legal goal) short = omega (arith, short)
       some (walks legal no-goal r) short = omega (arith, short)
-  chosen-in (suc k) s g =
-      rw g (moves-chosen k s (λ t away. chosen-in k t away) _ (chosen _ (move-heads k s (λ t away. chosen-in k t away)) (S .moves)))
+  earliest-in (suc k) s g =
+      rw g (moves-earliest k s (λ t away. earliest-in k t away) _ (earliest _ (move-heads k s (λ t away. earliest-in k t away)) (S .moves)))

@@ -21,7 +21,7 @@ use Rattle.paths.proofs.Following.{follow-goal}
 use Rattle.paths.proofs.Tables.{table-bounds}
 use Rattle.paths.proofs.First.{follow-route, follow-first, follow-short}
 use Rattle.paths.proofs.Orders.{before-irrefl, before-trans}
-use Rattle.paths.proofs.Finding.{Earlier, ChosenIn, noRoute, aRoute, at-goal, chosen-in}
+use Rattle.paths.proofs.Finding.{Earlier, EarliestIn, noRoute, aRoute, at-goal, earliest-in}
 
 -- a cost with moves, or none
 unfoldable pub foundAt : Cost → List ℕ → Found
@@ -31,7 +31,7 @@ foundAt (fin c) ms = found c ms
 module _ {S : System} {Good : S .Place → Type 0} {code : S .Place → ℕ} {size dearest : ℕ} (laws : Lawful S Good code size dearest)
     {D : S .Place → Cost} (T : Table S Good D) where
   -- a route that comes no later than the one that follows the table is that one
-  same-route : {s : S .Place} {c d : ℕ} {ms : List ℕ} → Good s → S .goal s ≡ false → D s ≡ fin d → ChosenIn S size s (found c ms)
+  same-route : {s : S .Place} {c d : ℕ} {ms : List ℕ} → Good s → S .goal s ≡ false → D s ≡ fin d → EarliestIn S size s (found c ms)
       → found c ms ≡ found d (follow S D size s)
   unfolding foundAt
   same-route {s} {c} {d} {ms} good g e (aRoute route first) =
@@ -54,7 +54,7 @@ module _ {S : System} {Good : S .Place → Type 0} {code : S .Place → ℕ} {si
   unfolding foundAt
   found-table {s} good = by (S .goal s) refl
     where
-      way : S .goal s ≡ false → (x : Cost) → D s ≡ x → (f : Found) → ChosenIn S size s f → f ≡ foundAt x (follow S D size s)
+      way : S .goal s ≡ false → (x : Cost) → D s ≡ x → (f : Found) → EarliestIn S size s f → f ≡ foundAt x (follow S D size s)
       way g inf e none c = refl
       way g inf e (found c ms) (aRoute route first) = absurd (rw e at (table-bounds laws T good (route-rival route)))
       way g (fin d) e none (noRoute empty) =
@@ -63,7 +63,7 @@ module _ {S : System} {Good : S .Place → Type 0} {code : S .Place → ℕ} {si
 
       by : (b : Bool) → S .goal s ≡ b → cheapestIn S size s ≡ foundAt (D s) (follow S D size s)
       by true g = at-goal S size s g ∙ sym (rw (T .goals good g, follow-goal S D size g) refl)
-      by false g = way g (D s) refl (cheapestIn S size s) (chosen-in S size s g)
+      by false g = way g (D s) refl (cheapestIn S size s) (earliest-in S size s g)
 
   module _ (X : Starts S) where
     -- what is found from a number, where it is a start: the start before its moves

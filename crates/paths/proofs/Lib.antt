@@ -8,7 +8,6 @@ pub mod Lowest
 pub mod Following
 pub mod Tables
 pub mod First
-pub mod Alike
 pub mod Orders
 pub mod Starts
 pub mod Joins

@@ -1,9 +1,9 @@
 -- Walks to a goal.
 -- Specification: sections 3.2 and 3.3.
---     Rival     a list of moves, one or more, legal move by move, that enters a goal with its last move, and
---               its cost
---     Route     a rival that enters no goal before
---     Before    the order of move lists: the one that comes first by move number
+--     Rival           a list of moves, one or more, legal move by move, that enters a goal with its last
+--                     move, and its cost
+--     Route           a rival that enters no goal before
+--     Before          the order of move lists: the one that comes first by move number
 --     Join, Ahead     a start with moves and a cost; which of two joins is taken
 use Prim.Native.Nat.{ℕ, _+_, _<_}
 use mathlib.Core.Path.{_≡_}

@@ -166,7 +166,7 @@ module _ (B : List ℕ) (bits : AllBelow 2 B) (t : Tech) (view : View) (unjoined
           (
             record { moves = ms; last = last; made = first .rest },
             rw place read,
-            rw (here .1) (λ i. record { moves = m ∷ ms; last = last; made = sym (first .sums) i }),
+            rw (here .1) (λ i. record { moves = m ∷ ms; last = last; made = sym (first .parts) i }),
           ),
         ),
       )

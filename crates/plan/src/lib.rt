@@ -1,1 +1,1 @@
-// The plan: records as bits, and what a plan claims. Definitions, no code yet.
+// The plan: records as bits, and what a plan claims. Definitions and laws, no code.

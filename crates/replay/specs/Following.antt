@@ -80,7 +80,7 @@ readCost bits at cost = do
   rule 18 at (eqb (field bits at 40) cost)
   good (at + 40)
 
--- a join's end, its sum, and the bit after it
+-- a join's end with what its moves did, and the bit after it
 pub record Joined : Type 0 where
   pub gone : Gone
   pub next : ℕ

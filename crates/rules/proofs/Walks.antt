@@ -66,7 +66,7 @@ pub record First (t : Tech) (view : View) (p : Place) (m : ℕ) (ms : List ℕ) 
   pub rest : List Made
   pub is : step t view p m ≡ legal made
   pub goes : walk t view (made .next) ms ≡ walked last rest
-  pub sums : all ≡ made ∷ rest
+  pub parts : all ≡ made ∷ rest
 
 -- a walk taken apart
 pub walk-first : (t : Tech) (view : View) (p : Place) (m : ℕ) (ms : List ℕ) {last : Place} {all : List Made} → walk t view p (m ∷ ms) ≡ walked last all
@@ -82,7 +82,7 @@ walk-first t view p m ms {last} {all} e = by (step t view p m) refl e
     on made is stuck goes h = absurd (not-stuck h)
     on made is (walked l s) goes h =
         let same : l ≡ last = cc in
-        record { made = made; rest = s; is = is; goes = rw same at goes; sums = cc }
+        record { made = made; rest = s; is = is; goes = rw same at goes; parts = cc }
 
     by : (s : Stepped) → step t view p m ≡ s → goOn (λ q. walk t view q ms) s ≡ walked last all → First t view p m ms last all
     by illegal is h = absurd (not-stuck h)

@@ -71,7 +71,7 @@ module _ {t : Tech} (view : View) (good-t : GoodTech t) (k : ℕ) (s : Standing)
       let rest = enter-walk ms (goneOn gone (first .made)) after (lands .place)
       (stood-entered (t .grid) k s (gone .made) (first .made) arrays known (lands .laid) (lands .place .vertex) stood) (first .goes) in
       let same : (gone .made ++ (first .made ∷ [])) ++ first .rest ≡ gone .made ++ made =
-      append-assoc (gone .made) (first .made ∷ []) (first .rest) ∙ ap (λ (ms : List Made). gone .made ++ ms) (sym (first .sums)) in
+      append-assoc (gone .made) (first .made ∷ []) (first .rest) ∙ ap (λ (ms : List Made). gone .made ++ ms) (sym (first .parts)) in
       record {
         left = rest .left;
         is = enter-step t view (suc k) m ms gone arrays (first .is) ∙ rest .is ∙ (λ i. entered (record { place = last; made = same i }) (rest .left));
