@@ -2,7 +2,7 @@
 --     fits                           a vertex of a small grid, and the divisors that take it apart
 --     low-by, down-by                what a move low or down takes off is no more than the vertex
 --     enters-none                    a number that is no move's
---     track-read                     what the code has read of a vertex and its track
+--     track-read, track-known        what the code has read of a vertex and its track
 --     layer-known                    a vertex's layer is below 8
 --     entered-outside, entered-at    what was entered, from the code's form
 use Prim.Native.Nat.{ℕ, zero, suc, _+_, _-_, _*_, _≤_, _<_}
@@ -111,6 +111,11 @@ track-read g v {from} {track} on isFrom isTrack =
       indexFits = rw index (either-below columns (omega (arith, b .column, on .small .columns)) (omega (arith, b .row, on .small .rows)));
       strideFits = (let below = either-below columns {x = 1} {y = g .columns} {limit = 257} (omega arith) (omega (arith, on .small .columns)) in omega (arith, below, stride));
     }
+
+-- the track of a vertex by its number
+pub track-known : {g : GridStruct} {v : ℕ} {track : Track} → OnGrid g v → track ≡ trackOf (gridOf g) (vertexBy (gridOf g) v)
+    → TrackRead g v (vertexStruct (vertexBy (gridOf g) v)) track
+track-known {g} {v} on is = track-read g v on refl is
 
 -- a vertex's layer, as the code has read it, is below 8
 pub layer-known : {t : TechStruct} {prices : List ℕ} {v : ℕ} {from : VertexStruct} → Here t prices v from → from .layer < 8

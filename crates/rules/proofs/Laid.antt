@@ -11,12 +11,13 @@ use Rattle.job.specs.Grid.{Grid, vertices}
 use Rattle.paths.specs.Costs.{Cost, fin, inf}
 use Rattle.rules.specs.Tracks.{Entered, outside, at, entered}
 use Rattle.rules.specs.Views.{View}
-use Rattle.rules.specs.Segments.{Direction, Kind, along, down, up, kindOf, Segment, Place, Grown, back, grown}
+use Rattle.rules.specs.Segments.{Direction, opposite, Kind, along, down, up, kindOf, Segment, Place, Grown, back, grown}
 use Rattle.rules.specs.Prices.{Tech, entering}
-use Rattle.rules.specs.Overheads.{clear, toward, onFrom, clearRun, Overhead, forbidden, owes, overheadOf}
+use Rattle.rules.specs.Overheads.{clear, toward, onFrom, clearRun, firstOf, bothEnds, Overhead, forbidden, owes, overheadOf}
 use Rattle.rules.specs.Steps.{Made, Stepped, illegal, legal, leaving, stepping, bySegment, ifPriced, into, step}
 use Rattle.rules.proofs.Neighbours.{entered-below}
 use Rattle.rules.proofs.Overheads.{overhead-holds}
+use Rattle.rules.proofs.Firsts.{first-below}
 
 -- a claim about two lists, one after the other
 pub all-append : {A : Type 0} (P : A → Type 0) (xs ys : List A) → All P xs → All P ys → All P (xs ++ ys)
@@ -47,6 +48,11 @@ run-free g view d (suc k) {v} h = by (entered g v (toward d)) refl (λ w on. run
         clearly true is = (record { onGrid = on; free = is }, rest w on)
         clearly false is = tt
 
+-- every vertex of the runs beyond both ends
+ends-free : (g : Grid) (view : View) (d : Direction) (k n : ℕ) {v : ℕ} → v < vertices g → All (Free g view) (bothEnds g view d k v (firstOf g d n v))
+unfolding bothEnds
+ends-free g view d k n h = all-append (Free g view) _ _ (run-free g view d k h) (run-free g view (opposite d) _ (first-below g d n h))
+
 -- what an overhead lays
 laidBy : Overhead → List ℕ
 laidBy forbidden = []
@@ -64,7 +70,7 @@ module _ (t : Tech) (view : View) where
   -- what a via move owes for a segment
   overhead-free : {v : ℕ} (s : Segment) → v < vertices (t .grid) → AllFree (laidBy (overheadOf t view v s))
   unfolding laidBy All
-  overhead-free {v} s h = overhead-holds t view v (λ o. AllFree (laidBy o)) tt tt (λ _. tt) (λ d missing few. run-free (t .grid) view d missing h) s
+  overhead-free {v} s h = overhead-holds t view v (λ o. AllFree (laidBy o)) tt tt (λ _. tt) (λ d n missing few. ends-free (t .grid) view d missing n h) s
 
   -- a via move lays what its overhead does
   leaving-free : (w enter : ℕ) (o : Overhead) → AllFree (laidBy o) → AllFree (laidIn (leaving w enter o))

@@ -21,7 +21,9 @@
 --     Entering       a move's price and the place that it leads to, by the vertex that it enters
 --     Stepping       what the code's steps mean
 --     Rooms          walking a track by its stride
+--     Firsts         a segment's first vertex
 --     Runs           counting the clear vertices beyond a vertex
+--     Ends           the two ends of a segment, and the clear vertices beyond them
 --     Owed           what the code's overheads mean
 --     Lent           the totals behind a `&mut`: the steps that the walks by hand share
 --     Certificates   a table of costs as data, shown to be a table by a test
@@ -48,7 +50,9 @@ pub mod Held
 pub mod Lists
 pub mod PriceLists
 pub mod Rooms
+pub mod Firsts
 pub mod Runs
+pub mod Ends
 pub mod Lent
 pub mod Owed
 pub mod Entering

@@ -92,7 +92,7 @@ Few (legal made) = made .penalties ≤ 1
 leaving-few : (t : Tech) (view : View) (p : Place) (w enter : ℕ) → Few (leaving w enter (overheadOf t view (p .vertex) (p .segment)))
 unfolding Few leaving
 leaving-few t view p w enter =
-    overhead-holds t view (p .vertex) (λ o. Few (leaving w enter o)) (omega arith) tt (λ _. omega arith) (λ _ _ _. omega arith) (p .segment)
+    overhead-holds t view (p .vertex) (λ o. Few (leaving w enter o)) (omega arith) tt (λ _. omega arith) (λ _ _ _ _. omega arith) (p .segment)
 
 -- by a step along the track
 stepping-few : (w enter : ℕ) (r : Grown) → Few (stepping w enter r)

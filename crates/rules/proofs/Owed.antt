@@ -1,111 +1,105 @@
 -- What the code's overheads mean.
---     owed-as                        what is owed, by another name of it
---     side-untried, side-unclear     a side is passed: not tried, or not as many are clear as are missing
---     side-whole                     as many are clear: the extension
---     sides-done                     no side is left: the area penalty
---     both-sides, only-side          the sides of a fresh segment, and of a running one
-use Prim.Native.Nat.{ℕ, zero, suc, _-_, _*_, _≤_, _<_}
-use mathlib.Core.Path.{_≡_, refl, sym, _∙_}
-use mathlib.Core.List.{List}
-use mathlib.Core.Bool.{Bool, true, false, cond}
+--     short-told      what is owed by a layer line as the code has read it
+--     short-pays      not as many are clear as are missing: the area penalty
+--     short-lays      as many are clear: the extension
+use Prim.Native.Nat.{ℕ, suc, _-_, _*_, _≤_, _<_}
+use mathlib.Core.Path.{_≡_, refl, sym, ap, _∙_}
+use mathlib.Core.List.{List, _++_}
 use native.Mathlib.Omega.{arith}
 use lib.ListN.{length}
 use borrow.Author.Tests.{eq-eqb, ne-eqb}
-use Rattle.job.specs.Grid.{Grid}
+use Rattle.job.specs.Grid.{Grid, vertices}
+use Rattle.job.specs.Job.{Layer}
 use Rattle.job.specs.Structs.{layerStruct}
 use Rattle.job.specs.declared.groups.Layer.{Layer as LayerStruct}
 use Rattle.rules.specs.Views.{View}
-use Rattle.rules.specs.Segments.{Direction, against, Segment, fresh, running}
+use Rattle.rules.specs.Segments.{Direction, opposite}
 use Rattle.rules.specs.Prices.{Tech, lineOf}
-use Rattle.rules.specs.Overheads.{clearRun, Overhead, owes, otherwise, lengthenedBy, lengthenedOn, overheadOf}
-use Rattle.rules.specs.Structs.{directionOf, laidBy, overheadBy, sideBy, triesOn, onSide, fromSide, FewMissing, WholeOverhead, IsOverhead}
+use Rattle.rules.specs.Overheads.{clearRun, firstOf, bothEnds, Overhead, owes, otherwise, lengthenedBy, tooShort}
+use Rattle.rules.specs.Structs.{directionOf, lineRecord, laidBy, Whole, overheadBy, FewMissing, WholeOverhead, IsOverhead}
 use Rattle.rules.specs.declared.segment.Direction.{Direction as DirectionEnum}
-use Rattle.rules.specs.declared.segment.Direction.the-variants.{Low, High}
-use Rattle.rules.specs.declared.overhead.Sides.{Sides}
-use Rattle.rules.specs.declared.overhead.Sides.the-variants.{Both, Only}
+use Rattle.rules.specs.declared.overhead.Extension.{Extension}
 use Rattle.rules.specs.declared.overhead.Overhead.{Overhead as OverheadEnum}
 use Rattle.rules.specs.declared.overhead.Overhead.the-variants.{Lengthened}
+use Rattle.rules.proofs.Ends.{reached, leaving-count, starting-count, ends-count, reached-within, run-whole}
 
 -- what is owed by one name is owed by an equal one
-pub owed-as : {wire area : ℕ} {g : Grid} {view : View} {v : ℕ} {r : OverheadEnum} {o p : Overhead} → IsOverhead wire area g view v r o → o ≡ p
+owed-as : {wire area : ℕ} {g : Grid} {view : View} {v : ℕ} {r : OverheadEnum} {o p : Overhead} → IsOverhead wire area g view v r o → o ≡ p
     → IsOverhead wire area g view v r p
 owed-as owed e = record { same = owed .same ∙ e; few = owed .few; whole = owed .whole }
 
 -- as many are clear as are missing
-clear-all : (wire missing : ℕ) (run : List ℕ) (else : Overhead) → length run ≡ missing → lengthenedBy wire missing run else ≡ owes (wire * missing) run missing 0
+clear-all : (line : Layer) (missing : ℕ) (run : List ℕ) → length run ≡ missing → lengthenedBy line missing run ≡ owes (line .wire * missing) run missing 0
 unfolding lengthenedBy
-clear-all wire missing run else e = rw (eq-eqb (length run) missing e) refl
+clear-all line missing run e = rw (eq-eqb (length run) missing e) refl
 
 -- not as many
-clear-some : (wire missing : ℕ) (run : List ℕ) (else : Overhead) → (length run ≡ missing → ⊥) → lengthenedBy wire missing run else ≡ else
+clear-some : (line : Layer) (missing : ℕ) (run : List ℕ) → (length run ≡ missing → ⊥) → lengthenedBy line missing run ≡ otherwise (line .area)
 unfolding lengthenedBy
-clear-some wire missing run else ne = rw (ne-eqb (length run) missing ne) refl
+clear-some line missing run ne = rw (ne-eqb (length run) missing ne) refl
 
-module _ (wire area : ℕ) (g : Grid) (view : View) (v missing : ℕ) (sides : Sides) where
-  -- what is left to try from a side on
-  abbrev left : (side : ℕ) → Overhead
-  left side = fromSide wire area g view v missing sides side
+-- what is owed by a layer line as the code has read it
+pub short-told : (t : Tech) (view : View) (v : ℕ) {line : LayerStruct} (d : Direction) (n : ℕ) {r : OverheadEnum} → line ≡ layerStruct (lineOf t v)
+    → IsOverhead (line .wire) (line .area) (t .grid) view v r (tooShort (t .grid) (lineRecord line) view v d n)
+    → IsOverhead (lineOf t v .wire) (lineOf t v .area) (t .grid) view v r (tooShort (t .grid) (lineOf t v) view v d n)
+short-told t view v d n is told = rw is at told
 
-  -- with its side apart
-  side-apart : (side : ℕ) → side < 2 → left side ≡ onSide wire g view v missing sides (sideBy side) (left (suc side))
-  unfolding fromSide sideBy
-  side-apart zero h = refl
-  side-apart (suc zero) h = refl
-  side-apart (suc (suc n)) h = absurd (omega (arith, h))
+module _ (g : Grid) (line : LayerStruct) (view : View) (v : ℕ) (d : DirectionEnum) (n : ℕ) {missing : ℕ} (is : missing ≡ line .least - n) where
+  -- so many clear vertices lie beyond the ends so far
+  abbrev so-many : (which : ℕ) → ℕ
+  so-many which = reached g view (directionOf d) missing n v which
 
-  module _ {side : ℕ} {d : Direction} (h : side < 2) (is : d ≡ sideBy side) where
-    -- a side that is not tried is passed
-    pub side-untried : triesOn sides d ≡ false → left side ≡ left (suc side)
-    unfolding onSide
-    side-untried untried = side-apart side h ∙ rw (← is, untried) refl
+  -- those that the definition lays
+  abbrev laid : List ℕ
+  laid = bothEnds g view (directionOf d) missing v (firstOf g (directionOf d) n v)
 
-    -- one on which not as many are clear as are missing is passed
-    pub side-unclear : (length (clearRun g view d missing v) ≡ missing → ⊥) → left side ≡ left (suc side)
-    unfolding onSide
-    side-unclear unclear = side-apart side h ∙ rw (← is) (by (triesOn sides d))
-      where
-        by : (b : Bool) → cond b (lengthenedBy wire missing (clearRun g view d missing v) (left (suc side))) (left (suc side)) ≡ left (suc side)
-        by true = clear-some wire missing _ _ unclear
-        by false = refl
+  -- what is owed
+  abbrev Owes : OverheadEnum → Type 0
+  Owes r = IsOverhead (line .wire) (line .area) g view v r (tooShort g (lineRecord line) view v (directionOf d) n)
 
-    -- one on which as many are clear is what is owed
-    side-clear : triesOn sides d ≡ true → length (clearRun g view d missing v) ≡ missing
-        → left side ≡ owes (wire * missing) (clearRun g view d missing v) missing 0
-    unfolding onSide
-    side-clear tried whole = side-apart side h ∙ rw (← is, tried) (clear-all wire missing _ _ whole)
+  by-ends : tooShort g (lineRecord line) view v (directionOf d) n ≡ lengthenedBy (lineRecord line) missing laid
+  unfolding tooShort
+  by-ends = rw is refl
 
-  -- a side that is tried, with as many clear vertices as are missing, is the extension
-  pub side-whole : {side : ℕ} (toward : DirectionEnum) → side < 2 → directionOf toward ≡ sideBy side → triesOn sides (directionOf toward) ≡ true
-      → length (clearRun g view (directionOf toward) missing v) ≡ missing → missing < 16
-      → IsOverhead wire area g view v (Lengthened missing (record { toward = toward; count = missing })) (left side)
-  unfolding overheadBy laidBy FewMissing WholeOverhead
-  side-whole toward h is tried whole few =
-      record { same = sym (side-clear h is tried whole); few = few; whole = record { few = few; clear = whole } }
+  -- not as many are clear as are missing
+  pub short-pays : {r : OverheadEnum} → so-many 2 < missing → IsOverhead (line .wire) (line .area) g view v r (otherwise (line .area)) → Owes r
+  short-pays less paid =
+      let count = ends-count g view (directionOf d) missing n v in
+      owed-as paid (sym (by-ends ∙ clear-some (lineRecord line) missing laid (λ e. omega (arith, e, count, less))))
 
-  -- with no side left it is the area penalty
-  pub sides-done : (side : ℕ) → 2 ≤ side → left side ≡ otherwise area
-  unfolding fromSide
-  sides-done zero h = absurd (omega (arith, h))
-  sides-done (suc zero) h = absurd (omega (arith, h))
-  sides-done (suc (suc n)) h = refl
+  -- the extension by the counts at the two ends
+  abbrev counted : Extension
+  counted = record { toward = d; length = n; leaving = so-many 1; starting = so-many 2 - so-many 1 }
 
-module _ (t : Tech) (view : View) (v : ℕ) {line : LayerStruct} (is : line ≡ layerStruct (lineOf t v)) where
-  -- what is owed by the sides that are tried, for every wire price
-  abbrev Tries : (missing : ℕ) → Sides → OverheadEnum → Type 0
-  Tries missing sides r = (wire : ℕ) → IsOverhead wire (line .area) (t .grid) view v r (fromSide wire (line .area) (t .grid) view v missing sides 0)
+  -- at the leaving end as many as are clear
+  leaving-run : clearRun g view (directionOf d) (so-many 1) v ≡ clearRun g view (directionOf d) missing v
+  leaving-run = rw leaving-count (run-whole g view (directionOf d) missing v)
 
-  -- what is owed for a segment
-  abbrev Owes : Segment → OverheadEnum → Type 0
-  Owes s r = IsOverhead (lineOf t v .wire) (lineOf t v .area) (t .grid) view v r (overheadOf t view v s)
+  module _ (h : v < vertices g) (enough : missing ≤ so-many 2) where
+    all-laid : so-many 2 ≡ missing
+    all-laid = omega (arith, enough, reached-within g view (directionOf d) missing n v h 2)
 
-  -- a fresh segment tries both sides
-  pub both-sides : {r : OverheadEnum} → Tries (line .least) Both r → Owes fresh r
-  unfolding fromSide onSide triesOn lengthenedOn overheadOf
-  both-sides told = rw is at (told (lineOf t v .wire))
+    -- they are those that the definition lays
+    same-laid : laidBy g view v counted ≡ laid
+    unfolding laidBy bothEnds
+    same-laid = rw (leaving-run, all-laid, leaving-count) refl
 
-  -- a running one tries its direction
-  pub only-side : (d : DirectionEnum) (n : ℕ) {missing : ℕ} {r : OverheadEnum} → missing ≡ line .least - n → Tries missing (Only d) r
-      → Owes (running (directionOf d) n) r
-  unfolding fromSide onSide triesOn lengthenedOn overheadOf against directionOf
-  only-side Low n isMissing told = rw (isMissing, is) at (told (lineOf t v .wire))
-  only-side High n isMissing told = rw (isMissing, is) at (told (lineOf t v .wire))
+    -- they are all clear
+    counted-whole : Whole g view v counted
+    counted-whole =
+        let first = starting-count g view (directionOf d) missing n v in
+        record {
+          leaving = rw leaving-run (sym (leaving-count g view (directionOf d) missing n v));
+          starting = rw all-laid (omega (arith, first, all-laid));
+        }
+
+    -- as many are clear
+    pub short-lays : missing < 16 → Owes (Lengthened missing counted)
+    unfolding overheadBy FewMissing WholeOverhead
+    short-lays few =
+        let enough-clear = ends-count g view (directionOf d) missing n v ∙ all-laid in
+        record {
+          same = sym (by-ends ∙ clear-all (lineRecord line) missing laid enough-clear ∙ ap (λ (vs : List ℕ). owes (line .wire * missing) vs missing 0) (sym same-laid));
+          few = few;
+          whole = counted-whole;
+        }

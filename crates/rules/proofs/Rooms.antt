@@ -1,12 +1,12 @@
 -- Walking a track by its stride.
---     roomToward, nextToward       how many steps the track goes on from a vertex, and the next vertex
+--     nextToward                   the next vertex
 --     room-enters, room-ends       what a step enters where the track goes on, and where it ends
 --     Onward, onward               the next vertex: of the grid, on the same track, with one step less of
 --                                  room
 --     room-read                    the room, by what the code has read of the track
 --     run-on, run-stops            a clear run from a vertex, by whether the next one is clear
---     run-within, run-short        a clear run is no longer than the room, so not whole where that is short
-use Prim.Native.Nat.{ℕ, zero, suc, _≤_, _<_, _-_}
+--     run-within                   a clear run is no longer than it may be, nor than the room
+use Prim.Native.Nat.{ℕ, zero, suc, _≤_, _<_, _-_, min}
 use mathlib.Core.Path.{_≡_, refl, sym, ap}
 use mathlib.Core.List.{[], _∷_}
 use mathlib.Core.Bool.{Bool, true, false}
@@ -18,18 +18,13 @@ use Rattle.job.specs.Structs.{gridOf}
 use Rattle.job.specs.declared.grid.Grid.{Grid as GridStruct}
 use Rattle.job.specs.declared.grid.Vertex.{Vertex as VertexStruct}
 use Rattle.rules.specs.Tracks.{layerOf, trackIndex, trackLength, outside, at, ifThere, entered}
-use Rattle.rules.specs.Structs.{lengthOn, roomIn, nextOn}
+use Rattle.rules.specs.Structs.{lengthOn, roomIn, roomToward, nextOn}
 use Rattle.rules.specs.Views.{View}
 use Rattle.rules.specs.Segments.{Direction, low, high}
 use Rattle.rules.specs.Overheads.{clear, toward, onFrom, clearRun}
 use Rattle.rules.specs.declared.track.Track.{Track}
 use Rattle.rules.proofs.Neighbours.{low-enters, high-enters}
 use Rattle.rules.proofs.Fitting.{TrackRead}
-
--- how many steps the track goes on from a vertex in a direction
-unfoldable pub roomToward : Grid → Direction → (v : ℕ) → ℕ
-roomToward g low v = trackIndex g v
-roomToward g high v = trackLength g v - 1 - trackIndex g v
 
 -- the next vertex in a direction, by the stride of the vertex's layer
 abbrev pub nextToward : Grid → Direction → (v : ℕ) → ℕ
@@ -84,14 +79,14 @@ module _ (g : Grid) (view : View) (d : Direction) (k v : ℕ) (room : 0 < roomTo
   unfolding clearRun onFrom
   run-stops unclear = rw (room-enters g d v room, onFrom, unclear) refl
 
--- a clear run is no longer than the room
-pub run-within : (g : Grid) (view : View) (d : Direction) (k v : ℕ) → v < vertices g → length (clearRun g view d k v) ≤ roomToward g d v
+-- a clear run is no longer than it may be, nor than the room
+pub run-within : (g : Grid) (view : View) (d : Direction) (k v : ℕ) → v < vertices g → length (clearRun g view d k v) ≤ min k (roomToward g d v)
 unfolding clearRun onFrom
 run-within g view d zero v h = omega arith
 run-within g view d (suc k) v h = by (roomToward g d v) refl (run-within g view d k)
   where
-    by : (room : ℕ) → roomToward g d v ≡ room → ((w : ℕ) → w < vertices g → length (clearRun g view d k w) ≤ roomToward g d w)
-        → length (clearRun g view d (suc k) v) ≤ roomToward g d v
+    by : (room : ℕ) → roomToward g d v ≡ room → ((w : ℕ) → w < vertices g → length (clearRun g view d k w) ≤ min k (roomToward g d w))
+        → length (clearRun g view d (suc k) v) ≤ min (suc k) (roomToward g d v)
     by zero e rest = rw (room-ends g d v e) (omega arith)
     by (suc n) e rest =
         let room : 0 < roomToward g d v = omega (arith, e) in
@@ -99,11 +94,7 @@ run-within g view d (suc k) v h = by (roomToward g d v) refl (run-within g view 
         clearly (clear view (nextToward g d v)) refl room on (rest (nextToward g d v) (on .onGrid))
       where
         clearly : (b : Bool) → clear view (nextToward g d v) ≡ b → 0 < roomToward g d v → Onward g d v (nextToward g d v)
-            → length (clearRun g view d k (nextToward g d v)) ≤ roomToward g d (nextToward g d v) → length (clearRun g view d (suc k) v) ≤ roomToward g d v
+            → length (clearRun g view d k (nextToward g d v)) ≤ min k (roomToward g d (nextToward g d v))
+            → length (clearRun g view d (suc k) v) ≤ min (suc k) (roomToward g d v)
         clearly true c room on fewer = omega (arith, ap length (run-on g view d k v room c), on .room, fewer)
         clearly false c room on fewer = omega (arith, ap length (run-stops g view d k v room c))
-
--- where there is less room than is missing, not as many vertices are clear
-pub run-short : (g : Grid) (view : View) (d : Direction) (missing v : ℕ) → v < vertices g → roomToward g d v < missing
-    → length (clearRun g view d missing v) ≡ missing → ⊥
-run-short g view d missing v h less whole = omega (arith, run-within g view d missing v h)

@@ -87,7 +87,7 @@ unfolding OverFits
 overhead-fits {t} view p good h =
     let line = line-good good h in
     overhead-holds t view (p .vertex) OverFits (omega arith) tt (λ ne. omega (arith, ne, line .area))
-    (λ d missing few.
+    (λ d n missing few.
     let wire : lineOf t (p .vertex) .wire ≤ 1023 = omega (arith, line .wire) in
     let least : missing ≤ 15 = omega (arith, few, line .minLength) in
     le-trans (mul-le-mul wire least) (omega arith)) (p .segment)

@@ -29,8 +29,8 @@ use Rattle.rules.specs.declared.step.Stepped.the-variants.{Illegal, Lega
 
 -- no vertex is clear throughout
 none-whole : (g : Grid) (view : View) (v : ℕ) → Whole g view v noExtension
-unfolding noExtension laidBy clearRun
-none-whole g view v = record { few = omega arith; clear = refl }
+unfolding noExtension clearRun
+none-whole g view v = record { leaving = refl; starting = refl }
 
 module _ (least : ℕ) (d : Direction) (s : Segment) (w enter : ℕ) where
   -- against the one before it

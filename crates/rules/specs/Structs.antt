@@ -16,7 +16,7 @@ use Rattle.job.specs.declared.layers.Layers.{Layers}
 use Rattle.job.specs.declared.penalty.Penalty.{Penalty}
 use Rattle.job.specs.declared.penalty.Penalty.the-variants.{Closed, Price}
 use Rattle.rules.specs.declared.price.Tech.{Tech as TechStruct}
-use Rattle.rules.specs.Tracks.{vertexBy, Entered, outside, at, entered}
+use Rattle.rules.specs.Tracks.{layerOf, vertexBy, trackIndex, trackLength, Entered, outside, at, entered}
 use Rattle.rules.specs.Views.{View}
 use Rattle.rules.specs.Segments.{Direction, low, high, opposite, Kind, along, down, up, Segment, fresh, running, paid, paidToward, Place, Grown, back, grown}
 use Rattle.rules.specs.Overheads.{clearRun, firstOf, Overhead, forbidden, owes, overheadOf}
@@ -83,9 +83,10 @@ unfoldable pub nextOn : (stride : ℕ) → Direction → (v : ℕ) → ℕ
 nextOn stride low v = v - stride
 nextOn stride high v = v + stride
 
--- how many steps the track goes on from a vertex in a direction
-abbrev pub roomToward : Grid → Direction → (v : ℕ) → ℕ
-roomToward g d v = roomIn (trackOf g (vertexBy g v)) d
+-- how many steps its track goes on from a vertex in a direction
+unfoldable pub roomToward : Grid → Direction → (v : ℕ) → ℕ
+roomToward g low v = trackIndex g v
+roomToward g high v = trackLength g v - 1 - trackIndex g v
 
 -- ---- segments
 
@@ -115,6 +116,12 @@ endOn t v d n (suc which) =
     let back = directionOf (oppositeTo d) in
     let steps = min n (roomIn t back) in
     record { vertex = nextOn (steps * t .stride) back v; toward = oppositeTo d; room = roomIn t back - steps }
+
+-- an end on a track of a grid, with the track's stride
+pub record EndOn (g : Grid) (stride : ℕ) (e : EndStruct) : Type 0 where
+  pub onGrid : e .vertex < vertices g
+  pub step : strideOf g (layerOf g (e .vertex)) ≡ stride
+  pub room : e .room ≡ roomToward g (directionOf (e .toward)) (e .vertex)
 
 unfoldable pub segmentOf : SegmentEnum → Segment
 segmentOf Fresh = fresh

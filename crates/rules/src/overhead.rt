@@ -90,9 +90,10 @@ fn too_short(
     'ends: for which in 0..2 {
         leaving = laid;
         let end = end_on(track, v, toward, length, which);
+        let away = end.toward;
         let mut last = end.vertex;
         for _count in 0..least(missing - laid, end.room) {
-            last = next_toward(track.stride, end.toward, last);
+            last = next_toward(track.stride, away, last);
             if !clear(seen, last) {
                 continue 'ends;
             }

@@ -1,8 +1,8 @@
 // The segment that is being made.
 ghost use mathlib.Core.Path.{_≡_};
-ghost use Rattle.rules.specs.Segments.{opposite, ofLength, against, notAgainst, grow};
+ghost use Rattle.rules.specs.Segments.{ofLength, against, notAgainst, grow};
 ghost use Rattle.rules.specs.Overheads.{toward};
-ghost use Rattle.rules.specs.Structs.{Short, directionOf, segmentOf, grownOf};
+ghost use Rattle.rules.specs.Structs.{Short, directionOf, oppositeTo, segmentOf, grownOf};
 
 pub enum Direction {
     Low,
@@ -35,7 +35,7 @@ pub fn move_toward(direction: Direction) -> usize
 
 // The other direction.
 pub fn opposite(direction: Direction) -> Direction
-    ensures { λ r. ⌜ directionOf r ≡ opposite (directionOf direction) ⌝ }
+    ensures { λ r. ⌜ r ≡ oppositeTo direction ⌝ }
 {
     match direction {
         Direction::Low => Direction::High,

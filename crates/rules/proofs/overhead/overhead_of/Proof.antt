@@ -9,12 +9,12 @@ use Rattle.job.specs.declared.groups.Layer.{Layer}
 use Rattle.job.specs.declared.grid.Vertex.{Vertex as VertexStruct}
 use Rattle.rules.specs.Prices.{lineOf}
 use Rattle.rules.specs.Overheads.{overheadOf}
-use Rattle.rules.specs.Structs.{segmentOf, techBy, overheadBy, FewMissing, WholeOverhead, Here}
+use Rattle.rules.specs.Structs.{directionOf, segmentOf, techBy, overheadBy, FewMissing, WholeOverhead, Here}
 use Rattle.rules.specs.declared.price.Tech.{Tech as TechStruct}
 use Rattle.rules.proofs.Fitting.{layer-known}
 use Rattle.rules.proofs.Held.{line-fits}
 use Rattle.rules.proofs.PriceLists.{line-told}
-use Rattle.rules.proofs.Owed.{both-sides, only-side}
+use Rattle.rules.proofs.Owed.{short-told}
 use Rattle.rules.proofs.overhead.overhead_of.Statement.{statement}
 use Rattle.rules.proofs.overhead.overhead_of.Tie as tie
 
@@ -29,21 +29,18 @@ line-at-requires c κs = layer-known (c .pre .1)
 enum-told : tie.Need-enum-told
 enum-told c = search needs
 
-lengthened-requires : tie.Need-lengthened-requires
-lengthened-requires c κs =
+too-short-requires : tie.Need-too-short-requires
+too-short-requires c κs =
     let (tech, here, same) = c .before .before .before .pre in
     (rw (← same) (here .fits .sized), rw (← same) (here .there), rw (← same) (here .is), few-least here (c .before .before .line-at .ensures ∙ line-told here))
 
 enum-known-segment : tie.Need-enum-known-segment
 enum-known-segment c = search needs
 
-missing-of-requires : tie.Need-missing-of-requires
-missing-of-requires c κs = search needs
-
-lengthened-requires-2 : tie.Need-lengthened-requires-2
-lengthened-requires-2 c κs =
-    let (tech, here, same) = c .before .before .before .before .before .pre in
-    (rw (← same) (here .fits .sized), rw (← same) (here .there), rw (← same) (here .is), omega (arith, few-least here (c .before .before .before .before .line-at .ensures ∙ line-told here), c .missing-of .ensures))
+too-short-requires-2 : tie.Need-too-short-requires-2
+too-short-requires-2 c κs =
+    let (tech, here, same) = c .before .before .before .before .pre in
+    (rw (← same) (here .fits .sized), rw (← same) (here .there), rw (← same) (here .is), few-least here (c .before .before .before .line-at .ensures ∙ line-told here))
 
 enum-told-2 : tie.Need-enum-told-2
 enum-told-2 c = search needs
@@ -52,17 +49,16 @@ enum-known-segment-2 : tie.Need-enum-known-segment-2
 enum-known-segment-2 c = search needs
 
 returns : tie.Need-returns
-unfolding segmentOf techBy
+unfolding segmentOf overheadOf directionOf techBy
 returns c tech here same =
     rw (c .before .enum-told .given .1)
-    (both-sides (techBy tech) _ _ (c .before .before .before .line-at .ensures ∙ line-told here) (rw (← same) at (c .lengthened .ensures)))
+    (short-told (techBy tech) _ _ _ _ (c .before .before .before .line-at .ensures ∙ line-told here) (rw (← same) at (c .too-short .ensures)))
 
 returns-2 : tie.Need-returns-2
-unfolding segmentOf techBy
+unfolding segmentOf overheadOf techBy
 returns-2 c tech here same =
-    rw (c .before .before .before .segment .given .1)
-    (only-side (techBy tech) _ _ (c .before .before .before .before .before .line-at .ensures ∙ line-told here) _ _ (c .before .missing-of .ensures)
-    (rw (← same) at (c .lengthened2 .ensures)))
+    rw (c .before .before .segment .given .1)
+    (short-told (techBy tech) _ _ _ _ (c .before .before .before .before .line-at .ensures ∙ line-told here) (rw (← same) at (c .too-short2 .ensures)))
 
 returns-3 : tie.Need-returns-3
 unfolding segmentOf overheadOf overheadBy FewMissing WholeOverhead
@@ -74,5 +70,5 @@ returns-4 c tech here same = rw (c .before .segment2 .given .1) (record { same =
 
 pub overhead-of-spec : {M : Type 1} → statement M
 overhead-of-spec =
-    tie.close (tie.spec line-at-requires enum-told lengthened-requires enum-known-segment missing-of-requires lengthened-requires-2 enum-told-2
-    enum-known-segment-2 returns returns-2 returns-3 returns-4)
+    tie.close (tie.spec line-at-requires enum-told too-short-requires enum-known-segment too-short-requires-2 enum-told-2 enum-known-segment-2 returns
+    returns-2 returns-3 returns-4)
