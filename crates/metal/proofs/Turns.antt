@@ -1,7 +1,7 @@
 -- Turns of the loops that store into a slice.
 --     Zeroing, zeroing-begun, -on, -done                  making entries zero
 --     Putting, putting-begun, -on, -past, -done           putting obstacles in
---     Running, running-begun, -next, -on, -ended, -done   laying an extension
+--     Running, running-begun, -next, -on, -done           laying a run
 --     Laying, laying-begun, -below, -on, -done            laying pins
 use Prim.Native.Nat.{ℕ, suc, _+_, _-_, _≤_, _<_}
 use mathlib.Core.Path.{_≡_, refl, sym, ap, _∙_}
@@ -16,8 +16,8 @@ use Rattle.job.specs.Grid.{Grid, vertices, strideOf}
 use Rattle.rules.specs.Tracks.{layerOf, entered}
 use Rattle.rules.specs.Segments.{Direction}
 use Rattle.rules.specs.Overheads.{toward}
-use Rattle.rules.specs.Structs.{nextOn}
-use Rattle.rules.proofs.Rooms.{roomToward, nextToward, Onward, onward, room-enters, room-ends}
+use Rattle.rules.specs.Structs.{roomToward, nextOn}
+use Rattle.rules.proofs.Rooms.{nextToward, Onward, onward, room-enters}
 use Rattle.rules.proofs.Standing.{all-at}
 use Rattle.metal.specs.Codes.{laidCode, layAll, fromEntered, beyond, withObstacles}
 use Rattle.job.specs.Slices.{zeroed}
@@ -93,32 +93,34 @@ module _ {occupants : List ℕ} {count done : ℕ} {found held : List ℕ} (so-f
   pub putting-done : count ≤ done → held ≡ withObstacles occupants count found
   putting-done h = let all : count ≡ done = omega arith in rw all (so-far .put)
 
--- ---- laying an extension
+-- ---- laying a run
 
--- along a track by its stride: so many are left beyond the last vertex, and laying these gives all
-pub record Running (g : Grid) (d : Direction) (net count v : ℕ) (found : List ℕ) (stride room last left : ℕ) (held : List ℕ) : Type 0 where
+-- along a track by its stride: so many vertices are laid, and laying those that are left beyond the last gives
+-- all
+pub record Running (g : Grid) (d : Direction) (net count v : ℕ) (found : List ℕ) (stride last done : ℕ) (held : List ℕ) : Type 0 where
   pub onGrid : last < vertices g
   pub step : strideOf g (layerOf g last) ≡ stride
-  pub goes : room ≡ roomToward g d last
+  pub room : count ≤ done + roomToward g d last
   pub size : length held ≡ length found
-  pub laid : layAll net (beyond g d count v) found ≡ layAll net (beyond g d left last) held
+  pub laid : layAll net (beyond g d count v) found ≡ layAll net (beyond g d (count - done) last) held
 
 module _ {g : Grid} {d : Direction} {net count v : ℕ} {found : List ℕ} {stride : ℕ} where
   -- all are left
-  pub running-begun : {room : ℕ} → v < vertices g → strideOf g (layerOf g v) ≡ stride → room ≡ roomToward g d v
-      → Running g d net count v found stride room v count found
-  running-begun on by goes = record { onGrid = on; step = by; goes = goes; size = refl; laid = refl }
+  pub running-begun : v < vertices g → strideOf g (layerOf g v) ≡ stride → count ≤ roomToward g d v → Running g d net count v found stride v 0 found
+  running-begun on by room =
+      let all : count - 0 ≡ count = omega arith in
+      record { onGrid = on; step = by; room = omega (arith, room); size = refl; laid = rw all refl }
 
-  module _ {room last left : ℕ} {held : List ℕ} (so-far : Running g d net count v found stride room last left held) where
-    -- the first of those that are left, and the rest
-    rest-from : 0 < left → beyond g d left last ≡ fromEntered (beyond g d (left - 1)) (entered g last (toward d))
-    unfolding beyond
-    rest-from h = let one : left ≡ suc (left - 1) = omega arith in ap (λ (k : ℕ). beyond g d k last) one
-
-    module _ {w : ℕ} (some : room ≡ 0 → ⊥) (is : w ≡ nextOn stride d last) where
+  module _ {last done : ℕ} {held : List ℕ} (so-far : Running g d net count v found stride last done held) where
+    module _ {w : ℕ} (h : done < count) (is : w ≡ nextOn stride d last) where
       -- the track goes on
       goes-on : 0 < roomToward g d last
-      goes-on = omega (arith, so-far .goes, some)
+      goes-on = omega (arith, so-far .room, h)
+
+      -- the first of those that are left, and the rest
+      rest-from : beyond g d (count - done) last ≡ fromEntered (beyond g d (count - (done + 1))) (entered g last (toward d))
+      unfolding beyond
+      rest-from = let one : count - done ≡ suc (count - (done + 1)) = omega (arith, h) in ap (λ (k : ℕ). beyond g d k last) one
 
       -- the next vertex by the stride of the track is the next of the last one's layer
       same-next : nextToward g d last ≡ w
@@ -129,28 +131,23 @@ module _ {g : Grid} {d : Direction} {net count v : ℕ} {found : List ℕ} {stri
       running-next = rw same-next at (onward g d (so-far .onGrid) goes-on)
 
       -- one more is laid
-      pub running-on : {after : List ℕ} → 0 < left → after ≡ set held w (laidCode net (getD held w 0))
-          → Running g d net count v found stride (room - 1) w (left - 1) after
+      pub running-on : {after : List ℕ} → after ≡ set held w (laidCode net (getD held w 0))
+          → Running g d net count v found stride w (done + 1) after
       unfolding fromEntered layAll
-      running-on h laid-on =
+      running-on laid-on =
           let on = running-next in
           record {
             onGrid = on .onGrid;
             step = ap (strideOf g) (on .layer) ∙ so-far .step;
-            goes = omega (arith, so-far .goes, on .room);
+            room = omega (arith, so-far .room, on .room);
             size = rw laid-on (length-set held w _ ∙ so-far .size);
-            laid = so-far .laid ∙ rw (rest-from h, room-enters g d last goes-on, same-next, laid-on) refl;
+            laid = so-far .laid ∙ rw (rest-from, room-enters g d last goes-on, same-next, laid-on) refl;
           }
 
-    -- the track ends
-    pub running-ended : 0 < left → room ≡ 0 → held ≡ layAll net (beyond g d count v) found
-    unfolding fromEntered layAll
-    running-ended h none = sym (so-far .laid ∙ rw (rest-from h, room-ends g d last (sym (so-far .goes) ∙ none)) refl)
-
-    -- none is left
-    pub running-done : left ≤ 0 → held ≡ layAll net (beyond g d count v) found
+    -- all are laid
+    pub running-done : count ≤ done → held ≡ layAll net (beyond g d count v) found
     unfolding beyond layAll
-    running-done h = let none : left ≡ 0 = omega arith in sym (so-far .laid ∙ rw none refl)
+    running-done h = let none : count - done ≡ 0 = omega (arith, h) in sym (so-far .laid ∙ rw none refl)
 
 -- ---- laying pins
 

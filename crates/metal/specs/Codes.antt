@@ -8,14 +8,14 @@
 --     withObstacles        obstacles put in
 use Prim.Native.Nat.{ℕ, zero, suc, _<_}
 use mathlib.Core.Path.{_≡_}
-use mathlib.Core.List.{List, [], _∷_}
+use mathlib.Core.List.{List, [], _∷_, _++_}
 use mathlib.Core.Bool.{cond}
 use lib.ListN.{length, getD, set, drop}
 use lib.Dec.{eqb}
 use Rattle.job.specs.Grid.{Grid, vertices}
 use Rattle.rules.specs.Tracks.{Entered, outside, at, entered}
-use Rattle.rules.specs.Segments.{Direction}
-use Rattle.rules.specs.Overheads.{toward}
+use Rattle.rules.specs.Segments.{Direction, opposite}
+use Rattle.rules.specs.Overheads.{toward, firstOf}
 use Rattle.rules.specs.Maps.{netCode}
 use Rattle.rules.specs.Structs.{directionOf}
 use Rattle.rules.specs.declared.overhead.Extension.{Extension}
@@ -39,9 +39,11 @@ unfoldable pub beyond : Grid → Direction → (n v : ℕ) → List ℕ
 beyond g d zero v = []
 beyond g d (suc n) v = fromEntered (beyond g d n) (entered g v (toward d))
 
--- the vertices of an extension beyond one
+-- the vertices of an extension beyond the two ends of a segment whose last vertex is v
 unfoldable pub extended : Grid → (v : ℕ) → Extension → List ℕ
-extended g v e = beyond g (directionOf (e .toward)) (e .count) v
+extended g v e =
+    let d = directionOf (e .toward) in
+    beyond g d (e .leaving) v ++ beyond g (opposite d) (e .starting) (firstOf g d (e .length) v)
 
 -- each vertex's code is that of the metal on it
 unfoldable pub Codes : Grid → (metal : List (List ℕ)) → (codes : List ℕ) → Type 0

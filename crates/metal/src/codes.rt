@@ -5,7 +5,9 @@ ghost use Prim.Native.Nat.{_<_, _≤_};
 ghost use lib.ListN.{length, getD, set};
 ghost use Rattle.job.specs.Grid.{vertices};
 ghost use Rattle.job.specs.Structs.{Sized, gridOf};
-ghost use Rattle.metal.specs.Codes.{laidCode, layAll, extended, withObstacles};
+ghost use Rattle.job.specs.declared.grid.Grid.{Grid as GridStruct};
+ghost use Rattle.rules.specs.Structs.{directionOf, EndOn};
+ghost use Rattle.metal.specs.Codes.{laidCode, layAll, beyond, extended, withObstacles};
 use bits::part::least;
 use job::grid::Grid;
 use rules::end::End;
@@ -36,9 +38,9 @@ pub fn lay(map: &mut [u16], v: usize, net: u16)
 
 // Lays a net on so many vertices beyond an end, along its track.
 fn lay_run(map: &mut [u16], stride: usize, end: End, count: usize, net: u16)
-    requires { ⌜ ((grid : Grid) × EndOn grid stride end × (vertices grid ≤ length (now map))) ⌝ }
-    ensures { λ _. ⌜ ((grid : Grid) → EndOn grid stride end
-        → now (map .exit) ≡ layAll net (beyond grid (directionOf (end .toward)) count (end .vertex)) (now (map .entry))) ⌝ }
+    requires { ⌜ ((grid : GridStruct) × (Sized grid) × (EndOn (gridOf grid) stride end) × (vertices (gridOf grid) ≤ length (now map))) ⌝ }
+    ensures { λ _. ⌜ ((grid : GridStruct) → EndOn (gridOf grid) stride end
+        → now (map .exit) ≡ layAll net (beyond (gridOf grid) (directionOf (end .toward)) count (end .vertex)) (now (map .entry))) ⌝ }
 {
     let toward = end.toward;
     let mut last = end.vertex;

@@ -12,7 +12,7 @@ use mathlib.Core.Bool.{Bool, true, false, cond}
 use native.Mathlib.Omega.{arith}
 use lib.Dec.{ltb}
 use Rattle.job.specs.Grid.{Grid, stepsColumn, strideOf}
-use Rattle.job.specs.Structs.{gridOf, vertexOf, vertexStruct}
+use Rattle.job.specs.Structs.{Small, gridOf, vertexOf, vertexStruct}
 use Rattle.job.specs.declared.grid.Grid.{Grid as GridStruct}
 use Rattle.job.specs.declared.grid.Vertex.{Vertex as VertexStruct}
 use Rattle.job.proofs.Sizes.{product-within, small-vertices}
@@ -92,6 +92,13 @@ pub either-below : (b : Bool) {x y limit : ℕ} → x < limit → y < limit → 
 either-below true hx hy = hx
 either-below false hx hy = hy
 
+-- a stride is small
+pub stride-fits : (g : GridStruct) (layer : ℕ) → Small g → strideOf (gridOf g) layer ≤ 256
+unfolding strideOf
+stride-fits g layer small =
+    let below = either-below (stepsColumn (gridOf g) layer) {x = 1} {y = g .columns} {limit = 257} (omega arith) (omega (arith, small .columns)) in
+    omega (arith, below)
+
 pub track-read : (g : GridStruct) (v : ℕ) {from : VertexStruct} {track : Track} → OnGrid g v → from ≡ vertexStruct (vertexBy (gridOf g) v)
     → track ≡ trackOf (gridOf g) (vertexOf from) → TrackRead g v from track
 unfolding trackIndex trackLength strideOf
@@ -109,7 +116,7 @@ track-read g v {from} {track} on isFrom isTrack =
       stride = stride;
       onTrack = rw (index, length) (index-below (gridOf g) (vertexBy (gridOf g) v) b);
       indexFits = rw index (either-below columns (omega (arith, b .column, on .small .columns)) (omega (arith, b .row, on .small .rows)));
-      strideFits = (let below = either-below columns {x = 1} {y = g .columns} {limit = 257} (omega arith) (omega (arith, on .small .columns)) in omega (arith, below, stride));
+      strideFits = rw stride (stride-fits g _ (on .small));
     }
 
 -- the track of a vertex by its number

@@ -18,7 +18,7 @@ use Rattle.rules.specs.Prices.{Tech}
 use Rattle.rules.specs.Places.{GoodTech, GoodPlace}
 use Rattle.rules.specs.Steps.{Made, legal, step, priceOf, priced}
 use Rattle.rules.specs.Walks.{startAt, total}
-use Rattle.rules.specs.Structs.{directionOf, segmentOf, TechFits, techBy, placeOf, laidBy, madeBy, WholeMade}
+use Rattle.rules.specs.Structs.{segmentOf, TechFits, techBy, placeOf, madeBy, WholeMade}
 use Rattle.rules.specs.declared.price.Tech.{Tech as TechStruct}
 use Rattle.rules.specs.declared.step.Place.{Place as PlaceStruct}
 use Rattle.rules.specs.declared.step.Made.{Made as MadeStruct}
@@ -26,7 +26,7 @@ use Rattle.rules.proofs.Places.{start-good}
 use Rattle.rules.proofs.Laid.{Free, step-free}
 use Rattle.rules.proofs.Moves.{step-keeps, step-limits, step-penalties}
 use Rattle.metal.specs.Codes.{layAll, extended}
-use Rattle.metal.proofs.Runs.{beyond-clear}
+use Rattle.metal.proofs.Runs.{extended-clear}
 use Rattle.walker.specs.Entering.{enterBy, Gone, goneAt, goneOn}
 use Rattle.walker.specs.Structs.{IsWalk, walkFrom, walkOn, WalkFits}
 use Rattle.walker.specs.declared.Walk.{Walk}
@@ -83,10 +83,10 @@ module _ (tech : TechStruct) (view : View) (p : PlaceStruct) (number : ℕ) (m :
   pub made-entered : (net : ℕ) (spots codes : List ℕ) {more after : List ℕ} → more ≡ set spots (m .next .vertex) 1
       → after ≡ layAll net (extended (gridOf (tech .grid)) (p .vertex) (m .extension) ++ (m .next .vertex ∷ [])) codes
       → enterBy net (madeBy (gridOf (tech .grid)) view (p .vertex) m) (record { spots = spots; codes = codes }) ≡ record { spots = more; codes = after }
-  unfolding madeBy enterBy extended laidBy
+  unfolding madeBy enterBy
   made-entered net spots codes {more} {after} put laid =
-      let run = beyond-clear (gridOf (tech .grid)) view (directionOf (m .extension .toward)) (m .extension .count) (p .vertex) (whole .whole .clear) in
-      let codes-after = sym (laid ∙ ap (λ (vs : List ℕ). layAll net (vs ++ (m .next .vertex ∷ [])) codes) run) in
+      let lays = extended-clear (gridOf (tech .grid)) view (p .vertex) (m .extension) (whole .whole) in
+      let codes-after = sym (laid ∙ ap (λ (vs : List ℕ). layAll net (vs ++ (m .next .vertex ∷ [])) codes) lays) in
       λ i. record { spots = sym put i; codes = codes-after i }
 
 -- of no moves

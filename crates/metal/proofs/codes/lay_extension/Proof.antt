@@ -1,105 +1,100 @@
--- `metal::codes::lay_extension` meets its contract: so many are left beyond the last vertex, and laying these
--- gives all.
+-- `metal::codes::lay_extension` meets its contract: the run at one end, then the one at the other.
 use Prim.Native.Nat.{ℕ, _≤_, _<_}
-use mathlib.Core.Path.{_≡_, refl, sym, _∙_}
-use native.Mathlib.Omega.{arith}
+use mathlib.Core.Path.{_≡_, refl, sym, ap, _∙_}
+use mathlib.Core.List.{List}
 use borrow.Author.Needs.{needs}
-use Rattle.job.specs.Grid.{vertices}
+use Rattle.job.specs.Grid.{Grid, vertices}
 use Rattle.job.specs.Structs.{Sized, gridOf, vertexOf, vertexStruct}
 use Rattle.job.specs.declared.grid.Grid.{Grid as GridStruct}
 use Rattle.job.specs.declared.grid.Vertex.{Vertex as VertexStruct}
 use Rattle.rules.specs.Tracks.{vertexBy}
-use Rattle.rules.specs.Structs.{trackOf, directionOf}
+use Rattle.rules.specs.Segments.{opposite}
+use Rattle.rules.specs.Overheads.{firstOf}
+use Rattle.rules.specs.Structs.{OnGrid, trackOf, directionOf, endOn}
+use Rattle.rules.specs.declared.segment.Direction.{Direction}
 use Rattle.rules.specs.declared.track.Track.{Track}
-use Rattle.rules.proofs.Fitting.{fits, TrackRead, track-read}
-use Rattle.rules.proofs.Rooms.{room-read}
-use Rattle.rules.proofs.Runs.{OnTrack}
-use Rattle.metal.specs.Codes.{extended}
-use Rattle.metal.proofs.Turns.{Running, running-begun, running-next, running-on, running-ended, running-done}
+use Rattle.rules.specs.declared.end.End.{End}
+use Rattle.rules.specs.declared.overhead.Extension.{Extension}
+use Rattle.rules.proofs.Fitting.{fits, track-known}
+use Rattle.rules.proofs.Ends.{endVertex, endToward, EndRead, end-read}
+use Rattle.metal.specs.Codes.{layAll, beyond, extended}
+use Rattle.metal.proofs.Laid.{laid-append, laid-length}
 use Rattle.metal.proofs.codes.lay_extension.Statement.{statement}
 use Rattle.metal.proofs.codes.lay_extension.Tie as tie
 
--- what the code has read of the track
-reading : {grid : GridStruct} {v : ℕ} {from : VertexStruct} {track : Track} {size : ℕ}
-    → (Sized grid) × (v < vertices (gridOf grid)) × (vertices (gridOf grid) ≤ size)
-    → from ≡ vertexStruct (vertexBy (gridOf grid) v) → track ≡ trackOf (gridOf grid) (vertexOf from) → TrackRead grid v from track
-reading pre from-is is = track-read _ _ (record { small = pre .0 .small; there = pre .1 }) from-is is
+module _ {grid : GridStruct} {v size : ℕ} (pre : (Sized grid) × (v < vertices (gridOf grid)) × (vertices (gridOf grid) ≤ size)) where
+  on-grid : OnGrid grid v
+  on-grid = record { small = pre .0 .small; there = pre .1 }
 
-abbrev Inv-loop : tie.InvT-loop
-Inv-loop map₀ v net track toward room₀ last₀ left₀ map room last left =
-    OnTrack v track (λ g. Running g (directionOf toward) net left₀ v map₀ (track .stride) room last left map)
+  -- the track by the vertex that the code has read
+  track-is : {from : VertexStruct} {track : Track} → from ≡ vertexStruct (vertexBy (gridOf grid) v) → track ≡ trackOf (gridOf grid) (vertexOf from)
+      → track ≡ trackOf (gridOf grid) (vertexBy (gridOf grid) v)
+  track-is isFrom is = is ∙ ap (λ (x : VertexStruct). trackOf (gridOf grid) (vertexOf x)) isFrom
 
-abbrev μ-loop : tie.MeasureT-loop
-μ-loop map₀ v net track toward room₀ last₀ left₀ map room last left = left
+  -- an end, as the code has read it
+  end-told : {track : Track} (d : Direction) (n which : ℕ) {end : End} → track ≡ trackOf (gridOf grid) (vertexBy (gridOf grid) v)
+      → end ≡ endOn track v d n which → EndRead (gridOf grid) (directionOf d) n v which (track .stride) end
+  end-told d n which isTrack is = rw is (end-read (pre .1) (track-known on-grid isTrack) d n which)
 
-vertex-by-requires : tie.Need-vertex-by-requires Inv-loop μ-loop
-vertex-by-requires c κs = record { small = c .before .pre .0 .small; there = c .before .pre .1 }
+-- the run at the leaving end, then the one at the starting end
+both-laid : (g : Grid) (v : ℕ) (e : Extension) (net stride : ℕ) (found : List ℕ) {leaving starting : End} {mid last : List ℕ}
+    → EndRead g (directionOf (e .toward)) (e .length) v 0 stride leaving → EndRead g (directionOf (e .toward)) (e .length) v 1 stride starting
+    → mid ≡ layAll net (beyond g (directionOf (leaving .toward)) (e .leaving) (leaving .vertex)) found
+    → last ≡ layAll net (beyond g (directionOf (starting .toward)) (e .starting) (starting .vertex)) mid → last ≡ layAll net (extended g v e) found
+unfolding extended endVertex endToward
+both-laid g v e net stride found leaving starting first then =
+    let d = directionOf (e .toward) in
+    let second = rw (starting .toward, starting .vertex) at then in
+    let run = beyond g (opposite d) (e .starting) (firstOf g d (e .length) v) in
+    second ∙ ap (layAll net run) (rw (leaving .toward, leaving .vertex) at first) ∙ sym (laid-append net (beyond g d (e .leaving) v) run found)
 
-track-of-requires : tie.Need-track-of-requires Inv-loop μ-loop
+vertex-by-requires : tie.Need-vertex-by-requires
+vertex-by-requires c κs = on-grid (c .before .pre)
+
+track-of-requires : tie.Need-track-of-requires
 track-of-requires c κs =
     let pre = c .before .before .pre in
-    (pre .0 .small, rw (c .vertex-by .ensures) (fits _ _ (record { small = pre .0 .small; there = pre .1 }) .layer))
+    (pre .0 .small, rw (c .vertex-by .ensures) (fits _ _ (on-grid pre) .layer))
 
-room-toward-requires : tie.Need-room-toward-requires Inv-loop μ-loop
-room-toward-requires c κs = reading (c .before .before .before .pre) (c .before .vertex-by .ensures) (c .track-of .ensures) .onTrack
+end-on-requires : tie.Need-end-on-requires
+end-on-requires c κs =
+    let pre = c .before .before .before .pre in
+    (c .before .before .before .args .grid, on-grid pre, track-is pre (c .before .vertex-by .ensures) (c .track-of .ensures))
 
-loop-holds : tie.Need-loop-holds Inv-loop μ-loop
-loop-holds c g from on r = running-begun on (sym (r .stride)) (c .room-toward .ensures ∙ room-read _ r)
+lay-run-requires : tie.Need-lay-run-requires
+lay-run-requires c κs =
+    let pre = c .before .before .before .before .before .pre in
+    let track = track-is pre (c .before .before .before .vertex-by .ensures) (c .before .before .track-of .ensures) in
+    (c .before .before .before .before .before .args .grid, pre .0, end-told pre _ _ _ track (c .before .end-on .ensures) .on, pre .2)
 
-same-length : tie.Need-same-length Inv-loop μ-loop
+end-on-requires-2 : tie.Need-end-on-requires-2
+end-on-requires-2 c κs =
+    let pre = c .before .before .before .before .before .before .before .before .pre in
+    (c .before .before .before .before .before .before .before .before .args .grid, on-grid pre, track-is pre (c .before .before .before .before .before .before .vertex-by .ensures) (c .before .before .before .before .before .track-of .ensures))
+
+lay-run-requires-2 : tie.Need-lay-run-requires-2
+lay-run-requires-2 c κs =
+    let pre = c .before .before .before .before .before .before .before .before .before .before .pre in
+    let track = track-is pre (c .before .before .before .before .before .before .before .before .vertex-by .ensures) (c .before .before .before .before .before .before .before .track-of .ensures) in
+    let first = c .before .before .before .before .lay-run .ensures _ (end-told pre _ _ _ track (c .before .before .before .before .before .before .end-on .ensures) .on) in
+    (c .before .before .before .before .before .before .before .before .before .before .args .grid, pre .0, end-told pre _ _ _ track (c .before .end-on2 .ensures) .on, rw (first, laid-length) (pre .2))
+
+same-length : tie.Need-same-length
 same-length c =
-    let pre = c .before .before .before .before .before .before .before .pre in
-    c .before .before .loop .inv _ _ (pre .1) (reading pre (c .before .before .before .before .before .vertex-by .ensures) (c .before .before .before .before .track-of .ensures)) .size
+    let pre = c .before .before .before .before .before .before .before .before .before .before .before .before .before .pre in
+    let track = track-is pre (c .before .before .before .before .before .before .before .before .before .before .before .vertex-by .ensures) (c .before .before .before .before .before .before .before .before .before .before .track-of .ensures) in
+    let first = c .before .before .before .before .before .before .before .lay-run .ensures _ (end-told pre _ _ _ track (c .before .before .before .before .before .before .before .before .before .end-on .ensures) .on) in
+    let then = c .before .before .lay-run2 .ensures _ (end-told pre _ _ _ track (c .before .before .before .before .end-on2 .ensures) .on) in
+    rw (then, laid-length, first, laid-length) refl
 
-returns : tie.Need-returns Inv-loop μ-loop
-unfolding extended
+returns : tie.Need-returns
 returns c =
-    let pre = c .before .before .before .before .before .before .before .pre in
-    let so-far = c .before .before .loop .inv _ _ (pre .1) (reading pre (c .before .before .before .before .before .vertex-by .ensures) (c .before .before .before .before .track-of .ensures)) in
-    running-ended so-far (c .before .loop-test .taken) (c .if1 .taken)
-
-next-toward-requires : tie.Need-next-toward-requires Inv-loop μ-loop
-next-toward-requires c κs =
-    let pre = c .before .before .before .before .before .before .before .pre in
-    let r = reading pre (c .before .before .before .before .before .vertex-by .ensures) (c .before .before .before .before .track-of .ensures) in
-    let so-far = c .before .before .loop .inv _ _ (pre .1) r in
-    let next = running-next so-far (c .if1 .left) refl in
-    (omega (arith, so-far .onGrid, pre .0 .vertices), omega (arith, r .strideFits), λ e. omega (arith, next .within e, so-far .step))
-
-lay-requires : tie.Need-lay-requires Inv-loop μ-loop
-lay-requires c κs =
-    let pre = c .before .before .before .before .before .before .before .before .before .pre in
-    let so-far = c .before .before .before .before .loop .inv _ _ (pre .1) (reading pre (c .before .before .before .before .before .before .before .vertex-by .ensures) (c .before .before .before .before .before .before .track-of .ensures)) in
-    let next = running-next so-far (c .before .before .if1 .left) (c .before .next-toward .ensures) in
-    omega (arith, next .onGrid, so-far .size, pre .2)
-
-sub-room : tie.Need-sub-room Inv-loop μ-loop
-sub-room c = search needs
-
-sub-left : tie.Need-sub-left Inv-loop μ-loop
-sub-left c = search needs
-
-loop-less : tie.Need-loop-less Inv-loop μ-loop
-loop-less c = search needs
-
-loop-again : tie.Need-loop-again Inv-loop μ-loop
-loop-again c g from on r =
-    running-on (c .before .before .before .before .before .before .before .loop .inv g from on r) (c .before .before .before .before .before .if1 .left) (c .before .before .before .before .next-toward .ensures) (c .before .before .before .before .before .before .loop-test .taken) (c .before .before .lay .ensures)
-
-same-length-2 : tie.Need-same-length-2 Inv-loop μ-loop
-same-length-2 c =
-    let pre = c .before .before .before .before .before .before .pre in
-    c .before .loop .inv _ _ (pre .1) (reading pre (c .before .before .before .before .vertex-by .ensures) (c .before .before .before .track-of .ensures)) .size
-
-returns-2 : tie.Need-returns-2 Inv-loop μ-loop
-unfolding extended
-returns-2 c =
-    let pre = c .before .before .before .before .before .before .pre in
-    let so-far = c .before .loop .inv _ _ (pre .1) (reading pre (c .before .before .before .before .vertex-by .ensures) (c .before .before .before .track-of .ensures)) in
-    running-done so-far (c .loop-test .left)
+    let pre = c .before .before .before .before .before .before .before .before .before .before .before .before .before .pre in
+    let track = track-is pre (c .before .before .before .before .before .before .before .before .before .before .before .vertex-by .ensures) (c .before .before .before .before .before .before .before .before .before .before .track-of .ensures) in
+    let leaving = end-told pre _ _ _ track (c .before .before .before .before .before .before .before .before .before .end-on .ensures) in
+    let starting = end-told pre _ _ _ track (c .before .before .before .before .end-on2 .ensures) in
+    both-laid _ _ _ _ _ _ leaving starting (c .before .before .before .before .before .before .before .lay-run .ensures _ (leaving .on)) (c .before .before .lay-run2 .ensures _ (starting .on))
 
 pub lay-extension-spec : {M : Type 1} → statement M
 lay-extension-spec =
-    tie.close
-    (tie.spec Inv-loop μ-loop vertex-by-requires track-of-requires room-toward-requires loop-holds same-length returns next-toward-requires
-    lay-requires sub-room sub-left loop-less loop-again same-length-2 returns-2)
+    tie.close (tie.spec vertex-by-requires track-of-requires end-on-requires lay-run-requires end-on-requires-2 lay-run-requires-2 same-length returns)
