@@ -121,7 +121,7 @@ impl<'a> NetAtHand<'a> {
             for vertex in self.view.laid(*extension) {
                 metal.lay(self.number, vertex);
             }
-            totals.added += u64::from(extension.steps);
+            totals.added += u64::from(extension.steps());
         }
         totals.cost += walk.cost;
         totals.penalties += walk.penalties;
