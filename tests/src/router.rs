@@ -1,6 +1,7 @@
 //! The second router: every net in job order, join by join, each the cheapest.
 
 pub mod left;
+pub mod one_bound;
 pub mod search;
 pub mod to_go;
 
