@@ -6,10 +6,12 @@ ghost use lib.ListN.{length, getD, set};
 ghost use Rattle.job.specs.Grid.{vertices};
 ghost use Rattle.job.specs.Structs.{Sized, gridOf};
 ghost use Rattle.metal.specs.Codes.{laidCode, layAll, extended, withObstacles};
+use bits::part::least;
 use job::grid::Grid;
+use rules::end::End;
+use rules::end::end_on;
 use rules::overhead::Extension;
 use rules::track::next_toward;
-use rules::track::room_toward;
 use rules::track::track_of;
 use rules::track::vertex_by;
 
@@ -32,25 +34,31 @@ pub fn lay(map: &mut [u16], v: usize, net: u16)
     }
 }
 
-// Lays a net on the vertices of an extension beyond one, along its track.
+// Lays a net on so many vertices beyond an end, along its track.
+fn lay_run(map: &mut [u16], stride: usize, end: End, count: usize, net: u16)
+    requires { ⌜ ((grid : Grid) × EndOn grid stride end × (vertices grid ≤ length (now map))) ⌝ }
+    ensures { λ _. ⌜ ((grid : Grid) → EndOn grid stride end
+        → now (map .exit) ≡ layAll net (beyond grid (directionOf (end .toward)) count (end .vertex)) (now (map .entry))) ⌝ }
+{
+    let toward = end.toward;
+    let mut last = end.vertex;
+    for _count in 0..least(count, end.room) {
+        last = next_toward(stride, toward, last);
+        lay(map, last, net);
+    }
+}
+
+// Lays a net on the vertices of an extension of a segment whose last vertex is v, at its two ends.
 pub fn lay_extension(map: &mut [u16], grid: Grid, v: usize, extension: Extension, net: u16)
     requires { ⌜ (Sized grid) × (v < vertices (gridOf grid)) × (vertices (gridOf grid) ≤ length (now map)) ⌝ }
     ensures { λ _. ⌜ now (map .exit) ≡ layAll net (extended (gridOf grid) v extension) (now (map .entry)) ⌝ }
 {
     let track = track_of(grid, vertex_by(grid, v));
     let toward = extension.toward;
-    let mut room = room_toward(track, toward);
-    let mut last = v;
-    let mut left = extension.count;
-    while 0 < left {
-        if room == 0 {
-            return;
-        }
-        last = next_toward(track.stride, toward, last);
-        lay(map, last, net);
-        room -= 1;
-        left -= 1;
-    }
+    let leaving = end_on(track, v, toward, extension.length, 0);
+    lay_run(map, track.stride, leaving, extension.leaving, net);
+    let starting = end_on(track, v, toward, extension.length, 1);
+    lay_run(map, track.stride, starting, extension.starting, net);
 }
 
 // Puts the obstacles into the first vertices.

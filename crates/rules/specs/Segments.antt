@@ -8,6 +8,11 @@ use lib.Dec.{leb}
 pub data Direction : Type 0 where
   low high : Direction
 
+-- the other direction
+unfoldable pub opposite : Direction → Direction
+opposite low = high
+opposite high = low
+
 -- what a move does: a step along the track in a direction, or a via to the layer below or above
 pub data Kind : Type 0 where
   along : Direction → Kind

@@ -1,8 +1,8 @@
 -- The forms in which the code holds vertices and moves.
-use Prim.Native.Nat.{ℕ, zero, suc, _+_, _-_, _*_, _<_}
+use Prim.Native.Nat.{ℕ, zero, suc, _+_, _-_, _*_, _<_, min}
 use mathlib.Core.Path.{_≡_}
-use mathlib.Core.List.{List, [], _∷_}
-use mathlib.Core.Bool.{Bool, true, false, not, cond}
+use mathlib.Core.List.{List, [], _∷_, _++_}
+use mathlib.Core.Bool.{true, false, cond}
 use lib.ListN.{length, getD}
 use Rattle.job.specs.Grid.{Grid, Vertex, vertices, stepsColumn, strideOf}
 use Rattle.job.specs.Job.{Layer, largestMinLength}
@@ -18,8 +18,8 @@ use Rattle.job.specs.declared.penalty.Penalty.the-variants.{Closed, Price}
 use Rattle.rules.specs.declared.price.Tech.{Tech as TechStruct}
 use Rattle.rules.specs.Tracks.{vertexBy, Entered, outside, at, entered}
 use Rattle.rules.specs.Views.{View}
-use Rattle.rules.specs.Segments.{Direction, low, high, Kind, along, down, up, against, Segment, fresh, running, paid, paidToward, Place, Grown, back, grown}
-use Rattle.rules.specs.Overheads.{clearRun, Overhead, forbidden, owes, otherwise, lengthenedBy, overheadOf}
+use Rattle.rules.specs.Segments.{Direction, low, high, opposite, Kind, along, down, up, Segment, fresh, running, paid, paidToward, Place, Grown, back, grown}
+use Rattle.rules.specs.Overheads.{clearRun, firstOf, Overhead, forbidden, owes, overheadOf}
 use Rattle.rules.specs.declared.segment.Direction.{Direction as DirectionEnum}
 use Rattle.rules.specs.declared.segment.Direction.the-variants.{Low, High}
 use Rattle.rules.specs.declared.segment.Segment.{Segment as SegmentEnum}
@@ -36,13 +36,12 @@ use Rattle.rules.specs.declared.step.Stepped.the-variants.{Illegal, Lega
 use Rattle.rules.specs.declared.track.Kind.{Kind as KindEnum}
 use Rattle.rules.specs.declared.track.Kind.the-variants.{Along, Down, Up}
 use Rattle.rules.specs.declared.overhead.Extension.{Extension as ExtensionStruct}
-use Rattle.rules.specs.declared.overhead.Sides.{Sides as SidesEnum}
-use Rattle.rules.specs.declared.overhead.Sides.the-variants.{Both, Only}
 use Rattle.rules.specs.declared.overhead.Overhead.{Overhead as OverheadEnum}
 use Rattle.rules.specs.declared.overhead.Overhead.the-variants.{Nothing, Lengthened, Penalised, Forbidden}
 use Rattle.rules.specs.declared.track.Entered.{Entered as EnteredEnum}
 use Rattle.rules.specs.declared.track.Entered.the-variants.{Outside, At}
 use Rattle.rules.specs.declared.track.Track.{Track}
+use Rattle.rules.specs.declared.end.End.{End as EndStruct}
 use Rattle.job.specs.declared.grid.Grid.{Grid as GridStruct}
 use Rattle.job.specs.declared.grid.Vertex.{Vertex as VertexStruct}
 use Rattle.rules.specs.Seen.{viewBy}
@@ -84,6 +83,10 @@ unfoldable pub nextOn : (stride : ℕ) → Direction → (v : ℕ) → ℕ
 nextOn stride low v = v - stride
 nextOn stride high v = v + stride
 
+-- how many steps the track goes on from a vertex in a direction
+abbrev pub roomToward : Grid → Direction → (v : ℕ) → ℕ
+roomToward g d v = roomIn (trackOf g (vertexBy g v)) d
+
 -- ---- segments
 
 unfoldable pub directionOf : DirectionEnum → Direction
@@ -100,6 +103,18 @@ unfoldable pub Via : Kind → Type 0
 Via (along d) = ⊥
 Via down = Unit
 Via up = Unit
+
+unfoldable pub oppositeTo : DirectionEnum → DirectionEnum
+oppositeTo Low = High
+oppositeTo High = Low
+
+-- the ends of a segment whose last vertex is v, in the order in which they are lengthened
+unfoldable pub endOn : Track → (v : ℕ) → DirectionEnum → (length which : ℕ) → EndStruct
+endOn t v d n zero = record { vertex = v; toward = d; room = roomIn t (directionOf d) }
+endOn t v d n (suc which) =
+    let back = directionOf (oppositeTo d) in
+    let steps = min n (roomIn t back) in
+    record { vertex = nextOn (steps * t .stride) back v; toward = oppositeTo d; room = roomIn t back - steps }
 
 unfoldable pub segmentOf : SegmentEnum → Segment
 segmentOf Fresh = fresh
@@ -152,18 +167,20 @@ costOf (Price n) = fin n
 
 -- ---- overhead
 
--- the vertices of an extension beyond one: as many of the clear run
+-- the vertices of an extension: as many of the clear runs beyond the two ends of a segment whose last vertex is v
 unfoldable pub laidBy : Grid → View → (v : ℕ) → ExtensionStruct → List ℕ
-laidBy g view v e = clearRun g view (directionOf (e .toward)) (e .count) v
+laidBy g view v e =
+    let d = directionOf (e .toward) in
+    clearRun g view d (e .leaving) v ++ clearRun g view (opposite d) (e .starting) (firstOf g d (e .length) v)
 
--- they are all clear, and fewer than 16
+-- they are all clear
 pub record Whole (g : Grid) (view : View) (v : ℕ) (e : ExtensionStruct) : Type 0 where
-  pub few : e .count < 16
-  pub clear : length (laidBy g view v e) ≡ e .count
+  pub leaving : length (clearRun g view (directionOf (e .toward)) (e .leaving) v) ≡ e .leaving
+  pub starting : length (clearRun g view (opposite (directionOf (e .toward))) (e .starting) (firstOf g (directionOf (e .toward)) (e .length) v)) ≡ e .starting
 
 -- no vertex
 unfoldable pub noExtension : ExtensionStruct
-noExtension = record { toward = High; count = 0 }
+noExtension = record { toward = High; length = 0; leaving = 0; starting = 0 }
 
 -- by the wire price and the area penalty of the layer that is left
 unfoldable pub overheadBy : (wire area : ℕ) → Grid → View → (v : ℕ) → OverheadEnum → Overhead
@@ -171,27 +188,6 @@ overheadBy wire area g view v Nothing = owes 0 [] 0 0
 overheadBy wire area g view v (Lengthened n e) = owes (wire * n) (laidBy g view v e) n 0
 overheadBy wire area g view v Penalised = owes area [] 0 1
 overheadBy wire area g view v Forbidden = forbidden
-
--- the sides in the order in which they are tried: high, then low
-unfoldable pub sideBy : ℕ → Direction
-sideBy zero = high
-sideBy (suc n) = low
-
--- whether a side is tried
-unfoldable pub triesOn : SidesEnum → Direction → Bool
-triesOn Both d = true
-triesOn (Only e) d = not (against (directionOf e) d)
-
--- an extension on a side, where it is tried and as many vertices are clear as are missing
-unfoldable pub onSide : (wire : ℕ) → Grid → View → (v missing : ℕ) → SidesEnum → Direction → Overhead → Overhead
-onSide wire g view v missing sides d else = cond (triesOn sides d) (lengthenedBy wire missing (clearRun g view d missing v) else) else
-
--- the sides from one on are left to try, then the area penalty
-unfoldable pub fromSide : (wire area : ℕ) → Grid → View → (v missing : ℕ) → SidesEnum → (side : ℕ) → Overhead
-fromSide wire area g view v missing sides zero =
-    onSide wire g view v missing sides high (onSide wire g view v missing sides low (otherwise area))
-fromSide wire area g view v missing sides (suc zero) = onSide wire g view v missing sides low (otherwise area)
-fromSide wire area g view v missing sides (suc (suc n)) = otherwise area
 
 -- fewer than 16 steps are missing
 unfoldable pub FewMissing : OverheadEnum → Type 0

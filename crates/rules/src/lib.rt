@@ -1,4 +1,5 @@
 // The rules of moves and prices.
+pub mod end;
 pub mod list;
 pub mod overhead;
 pub mod price;

@@ -1,31 +1,34 @@
 // What a via move owes for the segment that it leaves.
 ghost use mathlib.Core.Path.{_≡_};
-ghost use Prim.Native.Nat.{ℕ, _-_, _<_};
+ghost use Prim.Native.Nat.{_-_, _<_};
 ghost use Rattle.job.specs.Grid.{vertices};
 ghost use Rattle.job.specs.Structs.{Sized, gridOf, vertexStruct};
 ghost use Rattle.rules.specs.Tracks.{vertexBy};
 ghost use Rattle.rules.specs.Prices.{lineOf};
-ghost use Rattle.rules.specs.Overheads.{otherwise, overheadOf};
+ghost use Rattle.rules.specs.Overheads.{otherwise, tooShort, overheadOf};
 ghost use Rattle.rules.specs.Seen.{viewBy};
-ghost use Rattle.rules.specs.Structs.{directionOf, segmentOf, techBy, seenBy, costOf, sideBy, triesOn, fromSide, noExtension, FewMissing, IsOverhead, IsOverheadAnywhere, overheadCost, Here};
+ghost use Rattle.rules.specs.Structs.{directionOf, segmentOf, lineRecord, techBy, seenBy, costOf, noExtension, FewMissing, IsOverhead, IsOverheadAnywhere, overheadCost, Here};
 ghost use Rattle.rules.specs.declared.price.Tech.{Tech as TechStruct};
+use crate::end::end_on;
 use crate::price::line_at;
 use crate::seen::clear;
 use crate::segment::Direction;
 use crate::segment::Segment;
-use crate::segment::against;
 use crate::track::next_toward;
-use crate::track::room_toward;
 use crate::track::track_of;
+use bits::part::least;
 use job::grid::Grid;
 use job::grid::Vertex;
 use job::groups::Layer;
 use job::penalty::Penalty;
 
-// So many vertices beyond the one that is left, in a direction, become metal.
+// So many vertices become metal beyond the vertex that is left, in its segment's direction, and so many beyond
+// the segment's first vertex, which lies its length behind, against it.
 pub struct Extension {
     pub toward: Direction,
-    pub count: usize,
+    pub length: usize,
+    pub leaving: usize,
+    pub starting: usize,
 }
 
 pub fn no_extension() -> Extension
@@ -33,7 +36,9 @@ pub fn no_extension() -> Extension
 {
     Extension {
         toward: Direction::High,
-        count: 0,
+        length: 0,
+        leaving: 0,
+        starting: 0,
     }
 }
 
@@ -63,77 +68,52 @@ fn missing_of(least: usize, length: usize) -> usize
     if length < least { least - length } else { 0 }
 }
 
-// The sides of a vertex on which an extension is tried: both, or the one in a direction.
-pub enum Sides {
-    Both,
-    Only(Direction),
-}
-
-// Whether a side is tried.
-fn tries(sides: Sides, toward: Direction) -> bool
-    ensures { λ r. ⌜ r ≡ triesOn sides (directionOf toward) ⌝ }
-{
-    match sides {
-        Sides::Both => true,
-        Sides::Only(direction) => !against(direction, toward),
-    }
-}
-
-// The sides in the order in which they are tried: high, then low.
-fn side_of(side: usize) -> Direction
-    ensures { λ r. ⌜ directionOf r ≡ sideBy side ⌝ }
-{
-    match side {
-        0 => Direction::High,
-        _ => Direction::Low,
-    }
-}
-
-// An extension on the first side that has as many clear vertices beyond the vertex as are missing, or the
-// area penalty. The first vertex that isn't clear stops the count of its side; a track that ends before needs
-// no count.
-fn lengthened(
+// An extension of as many clear vertices as are missing, at the leaving end first and the rest at the starting
+// end, or the area penalty. The first vertex that isn't clear stops the count of its end.
+fn too_short(
     grid: Grid,
-    area: usize,
+    line: Layer,
     seen: &[u8; 16384],
     v: usize,
     from: Vertex,
-    missing: usize,
-    sides: Sides,
+    toward: Direction,
+    length: usize,
 ) -> Overhead
-    requires { ⌜ (Sized grid) × (v < vertices (gridOf grid)) × (from ≡ vertexStruct (vertexBy (gridOf grid) v)) × (missing < 16) ⌝ }
+    requires { ⌜ (Sized grid) × (v < vertices (gridOf grid)) × (from ≡ vertexStruct (vertexBy (gridOf grid) v)) × (line .least < 16) ⌝ }
     ensures { λ r. ⌜ (let view = viewBy (gridOf grid) (now (seen .entry)) in
-        (wire : ℕ) → IsOverhead wire area (gridOf grid) view v r (fromSide wire area (gridOf grid) view v missing sides 0)) ⌝ }
+        IsOverhead (line .wire) (line .area) (gridOf grid) view v r (tooShort (gridOf grid) (lineRecord line) view v (directionOf toward) length)) ⌝ }
 {
+    let missing = missing_of(line.least, length);
     let track = track_of(grid, from);
-    'sides: for side in 0..2 {
-        let toward = side_of(side);
-        if !tries(sides, toward) {
-            continue 'sides;
-        }
-        if room_toward(track, toward) < missing {
-            continue 'sides;
-        }
-        let mut last = v;
-        for _count in 0..missing {
-            last = next_toward(track.stride, toward, last);
+    let mut laid = 0;
+    let mut leaving = 0;
+    'ends: for which in 0..2 {
+        leaving = laid;
+        let end = end_on(track, v, toward, length, which);
+        let mut last = end.vertex;
+        for _count in 0..least(missing - laid, end.room) {
+            last = next_toward(track.stride, end.toward, last);
             if !clear(seen, last) {
-                continue 'sides;
+                continue 'ends;
             }
+            laid += 1;
         }
-        return Overhead::Lengthened(
-            missing,
-            Extension {
-                toward,
-                count: missing,
-            },
-        );
     }
-    otherwise(area)
+    if laid < missing {
+        return otherwise(line.area);
+    }
+    Overhead::Lengthened(
+        missing,
+        Extension {
+            toward,
+            length,
+            leaving,
+            starting: laid - leaving,
+        },
+    )
 }
 
-// A fresh segment tries high, then low; a running one its direction, for what its length lacks. A paid
-// segment owes nothing.
+// A fresh segment takes high, then low: it goes high with no length. A paid segment owes nothing.
 pub fn overhead_of(
     grid: Grid,
     prices: &[usize; 48],
@@ -150,12 +130,8 @@ pub fn overhead_of(
 {
     let line = line_at(prices, from.layer);
     match segment {
-        Segment::Fresh => { lengthened(grid, line.area, seen, v, from, line.least, Sides::Both) }
-        Segment::Running(toward, length) => {
-            let missing = missing_of(line.least, length);
-            let sides = Sides::Only(toward);
-            lengthened(grid, line.area, seen, v, from, missing, sides)
-        }
+        Segment::Fresh => too_short(grid, line, seen, v, from, Direction::High, 0),
+        Segment::Running(toward, length) => too_short(grid, line, seen, v, from, toward, length),
         Segment::Paid => Overhead::Nothing,
         Segment::PaidToward(_toward) => Overhead::Nothing,
     }

@@ -1,6 +1,6 @@
 // The segment that is being made.
 ghost use mathlib.Core.Path.{_≡_};
-ghost use Rattle.rules.specs.Segments.{ofLength, against, notAgainst, grow};
+ghost use Rattle.rules.specs.Segments.{opposite, ofLength, against, notAgainst, grow};
 ghost use Rattle.rules.specs.Overheads.{toward};
 ghost use Rattle.rules.specs.Structs.{Short, directionOf, segmentOf, grownOf};
 
@@ -30,6 +30,16 @@ pub fn move_toward(direction: Direction) -> usize
     match direction {
         Direction::Low => 0,
         Direction::High => 1,
+    }
+}
+
+// The other direction.
+pub fn opposite(direction: Direction) -> Direction
+    ensures { λ r. ⌜ directionOf r ≡ opposite (directionOf direction) ⌝ }
+{
+    match direction {
+        Direction::Low => Direction::High,
+        Direction::High => Direction::Low,
     }
 }
 
