@@ -148,6 +148,10 @@ impl Walk {
         }
     }
 
+    pub fn extensions(&self) -> &[Extension] {
+        &self.extensions
+    }
+
     pub fn go(&mut self, step: Step) {
         self.place = step.to;
         self.cost += step.cost();
