@@ -122,14 +122,12 @@ impl Brute<'_> {
         if missing == 0 {
             return Some(());
         }
-        let mut clear = match steps.first() {
-            Some(Move::Low) => self.clear_beyond(last, Move::Low),
-            _ => self.clear_beyond(last, Move::High),
+        let (side, back) = match steps.first() {
+            Some(Move::Low) => (Move::Low, Move::High),
+            _ => (Move::High, Move::Low),
         };
-        clear.extend(match steps.first() {
-            Some(Move::Low) => self.clear_beyond(first, Move::High),
-            _ => self.clear_beyond(first, Move::Low),
-        });
+        let mut clear = self.clear_beyond(last, side);
+        clear.extend(self.clear_beyond(first, back));
         if clear.len() >= missing {
             judged.cost += u64::from(layer.wire_price) * missing as u64;
             judged.added.extend(&clear[..missing]);
