@@ -121,7 +121,7 @@ impl<'a> NetAtHand<'a> {
             for vertex in self.view.laid(*extension) {
                 metal.lay(self.number, vertex);
             }
-            totals.added += u64::from(extension.steps);
+            totals.added += u64::from(extension.steps());
         }
         totals.cost += walk.cost;
         totals.penalties += walk.penalties;
@@ -146,6 +146,10 @@ impl Walk {
             extensions: Vec::new(),
             penalties: 0,
         }
+    }
+
+    pub fn extensions(&self) -> &[Extension] {
+        &self.extensions
     }
 
     pub fn go(&mut self, step: Step) {

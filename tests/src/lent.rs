@@ -67,7 +67,7 @@ impl Lent {
         let routed = route(&board);
         let plan = pack(&routed.records);
         self.seen.job(job);
-        self.seen.routed(&routed);
+        self.seen.routed(&board, &routed);
         let exact = Case {
             kind: "routed",
             job: &job.pack(),

@@ -72,7 +72,7 @@ impl Pairs {
             work: board.work_need(),
         };
         let cheapest = route(&board);
-        self.seen.routed(&cheapest);
+        self.seen.routed(&board, &cheapest);
         self.ask_legal("cheapest joins", &sized, &cheapest);
         let wandering = wandering_plan(&board, &mut self.random);
         self.ask_legal("wandering joins", &sized, &wandering);

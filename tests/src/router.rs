@@ -1,6 +1,7 @@
 //! The second router: every net in job order, join by join, each the cheapest.
 
 pub mod left;
+pub mod one_bound;
 pub mod search;
 pub mod to_go;
 
@@ -9,6 +10,7 @@ use std::convert::Infallible;
 use crate::joining::{join_nets, Joined, NetAtHand, Walk};
 use crate::plan::{Join, Record};
 use crate::rules::board::Board;
+use crate::rules::step::Extension;
 use left::Left;
 use search::Search;
 
@@ -62,4 +64,18 @@ pub fn walk(board: &Board, net: &NetAtHand, join: &Join) -> Walk {
     }
     assert_eq!(walk.cost, join.cost, "a join costs what its moves cost");
     walk
+}
+
+/// The extensions of a plan that is known to be legal, in order.
+pub fn extensions(board: &Board, records: &[Record]) -> Vec<Extension> {
+    let mut records = records.iter();
+    let mut extensions = Vec::new();
+    let joined = join_nets(board, |net| {
+        let join = records.next().and_then(Record::join);
+        let walk = join.map(|join| walk(board, net, join));
+        extensions.extend(walk.iter().flat_map(Walk::extensions));
+        Ok::<_, Infallible>(walk)
+    });
+    let Ok(_) = joined;
+    extensions
 }

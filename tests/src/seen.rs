@@ -5,8 +5,11 @@ use std::fmt;
 
 use crate::job::{Job, CLOSED};
 use crate::plan::Record;
-use crate::router::Routed;
+use crate::router::{extensions, Routed};
+use crate::rules::board::Board;
 use crate::rules::metal::SEVERAL;
+use crate::rules::segment::Segment;
+use crate::rules::step::Extension;
 
 #[derive(Default)]
 pub struct Seen {
@@ -46,7 +49,7 @@ impl Seen {
     }
 
     /// What a routed job has of note.
-    pub fn routed(&mut self, routed: &Routed) {
+    pub fn routed(&mut self, board: &Board, routed: &Routed) {
         let moves = |record: &Record| record.join().map(|join| join.moves.len());
         let moves: Vec<usize> = routed.records.iter().filter_map(moves).collect();
         let joins = moves.len();
@@ -60,6 +63,14 @@ impl Seen {
         self.note("routed: added steps", totals.added);
         self.note("routed: penalised segments", totals.penalties);
         self.note("routed: jobs with shorts", u64::from(shared));
+        for extension in extensions(board, &routed.records) {
+            self.note(laid(&extension), 1);
+        }
+    }
+
+    /// Fails where an extension of some kind came up less often than this.
+    pub fn assert_extensions(&self, least: u64) {
+        LAID.iter().for_each(|what| self.assert_often(what, least));
     }
 
     /// Fails where a kind of job that routing must be tried on came up less often
@@ -83,7 +94,28 @@ impl Seen {
             "routed: jobs with shorts",
         ];
         more.iter().for_each(|what| self.assert_often(what, least));
+        self.assert_extensions(least);
     }
+}
+
+/// The ends at which an extension is laid, of a running segment and of a fresh one.
+const LAID: [&str; 6] = [
+    "extension: running, leaving end",
+    "extension: running, starting end",
+    "extension: running, both ends",
+    "extension: fresh, high",
+    "extension: fresh, low",
+    "extension: fresh, high and low",
+];
+
+fn laid(extension: &Extension) -> &'static str {
+    let fresh = extension.from.segment == Segment::Fresh;
+    let ends = match (extension.leaving, extension.starting) {
+        (_, 0) => 0,
+        (0, _) => 1,
+        _ => 2,
+    };
+    LAID[usize::from(fresh) * 3 + ends]
 }
 
 fn layers(count: usize) -> String {

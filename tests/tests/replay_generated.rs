@@ -34,6 +34,7 @@ fn generated_plans_get_the_answer_of_the_second_replay() {
         let places = tally.places[number].len();
         assert!(places >= 100, "few places of {number}");
     }
+    seen.assert_extensions(50);
     for (kind, _) in AIMED {
         seen.assert_often(kind, 500);
     }

@@ -7,21 +7,30 @@ use maizespell_tests::generate::routable::{routable_job, Size};
 use maizespell_tests::random::Random;
 use maizespell_tests::router::route;
 use maizespell_tests::rules::board::Board;
+use maizespell_tests::seen::Seen;
 
 const SEED: u64 = 4_711;
-const JOBS: u32 = 4_000;
+const JOBS: u32 = 10_000;
 
 /// Every route of so many moves is looked at.
 const MOST_MOVES: usize = 9;
+
+/// Each kind of extension comes up at least so often.
+const LEAST: u64 = 20;
 
 #[test]
 fn joins_come_first_among_all_short_routes() {
     let mut random = Random::new(SEED);
     let mut checked = Checked::by(MOST_MOVES);
+    let mut seen = Seen::default();
     for _ in 0..JOBS {
         let job = routable_job(Size::Tiny, &mut random);
-        checked.check(&job, &route(&Board::new(&job)));
+        let board = Board::new(&job);
+        let routed = route(&board);
+        checked.check(&job, &routed);
+        seen.routed(&board, &routed);
     }
-    println!("{checked:#?}");
+    println!("{seen}{checked:#?}");
     checked.assert_many();
+    seen.assert_extensions(LEAST);
 }

@@ -11,7 +11,7 @@ use maizespell_tests::replay::read_plan;
 use maizespell_tests::router::{route, Routed};
 use maizespell_tests::rules::board::Board;
 use maizespell_tests::rules::metal::{BARE, SEVERAL};
-use maizespell_tests::rules::moves::Move::{self, Down, High, Low, Up};
+use maizespell_tests::rules::moves::Move::{self, Down, High, Up};
 
 fn routed(job: &Job) -> Routed {
     route(&Board::new(job))
@@ -63,7 +63,7 @@ fn a_has_the_plan_of_the_specification() {
 fn b_and_h_have_the_moves_of_the_specification() {
     let b = vec![High, High, High, Up, High, Down];
     assert_eq!(only_join(&marked::b()), (vertex(0, 0, 0), b));
-    let h = vec![Up, Low, Low, Down, Up, High, High, High, Up];
+    let h = vec![Up, High, Up];
     assert_eq!(only_join(&marked::h()), (vertex(0, 3, 3), h));
 }
 

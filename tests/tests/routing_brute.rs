@@ -8,23 +8,33 @@ use maizespell_tests::library::ROUTING;
 use maizespell_tests::marked;
 use maizespell_tests::random::Random;
 use maizespell_tests::routing::routed_by;
+use maizespell_tests::rules::board::Board;
+use maizespell_tests::seen::Seen;
 
 const SEED: u64 = 31_415;
-const JOBS: u32 = 4_000;
+const JOBS: u32 = 10_000;
 
 /// Every list of so many moves is looked at.
 const MOST_MOVES: usize = 9;
+
+/// Each kind of extension comes up at least so often.
+const LEAST: u64 = 20;
 
 #[test]
 fn records_come_first_among_all_short_routes() {
     let mut random = Random::new(SEED);
     let mut checked = Checked::by(MOST_MOVES);
+    let mut seen = Seen::default();
     for _ in 0..JOBS {
         let job = routable_job(Size::Tiny, &mut random);
-        checked.check(&job, &routed_by(ROUTING, &job));
+        let board = Board::new(&job);
+        let routed = routed_by(ROUTING, &job);
+        checked.check(&job, &routed);
+        seen.routed(&board, &routed);
     }
-    println!("{checked:#?}");
+    println!("{seen}{checked:#?}");
     checked.assert_many();
+    seen.assert_extensions(LEAST);
 }
 
 #[test]

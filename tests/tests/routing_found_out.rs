@@ -4,15 +4,15 @@
 use std::convert::Infallible;
 
 use maizespell_tests::generate::routable::quick_routable_job;
-use maizespell_tests::joining::join_nets;
+use maizespell_tests::joining::{join_nets, NetAtHand};
 use maizespell_tests::lent::Lent;
 use maizespell_tests::library::{RoutingResult, REPLAY};
-use maizespell_tests::plan::Record;
+use maizespell_tests::plan::{Join, Record};
 use maizespell_tests::random::Random;
 use maizespell_tests::reader::{read, Refusal};
 use maizespell_tests::replay::replay;
 use maizespell_tests::router::search::Search;
-use maizespell_tests::router::{walk, Routed};
+use maizespell_tests::router::{one_bound, walk, Routed};
 use maizespell_tests::routing::{refused, routing, routing_by, Routing};
 use maizespell_tests::rules::board::Board;
 use maizespell_tests::wander::wandering_plan;
@@ -23,22 +23,35 @@ const JOBS: u32 = 120;
 /// Jobs on which the second routing is asked against itself.
 const AGREED_JOBS: u32 = 4_000;
 
-/// The second router, but a net ends where this says so: by its number, counted from
-/// 1, and the joins that it has.
-fn ending(board: &Board, ends: fn(u16, usize) -> bool) -> Routed {
-    let mut search = Search::new(board);
+/// What these joins of the net at hand make.
+fn joined_by(board: &Board, mut find: impl FnMut(&NetAtHand) -> Option<Join>) -> Routed {
     let mut records: Vec<Record> = Vec::new();
-    let mut joins = vec![0; board.job.nets.len() + 1];
     let joined = join_nets(board, |net| {
-        let joins = &mut joins[usize::from(net.number())];
-        let join = search.cheapest(net).filter(|_| !ends(net.number(), *joins));
-        *joins += 1;
+        let join = find(net);
         let walked = join.as_ref().map(|join| walk(board, net, join));
         records.push(join.map_or(Record::NoJoin, Record::Join));
         Ok::<_, Infallible>(walked)
     });
     let Ok(joined) = joined;
     Routed { records, joined }
+}
+
+/// The second router, but a net ends where this says so: by its number, counted from
+/// 1, and the joins that it has.
+fn ending(board: &Board, ends: fn(u16, usize) -> bool) -> Routed {
+    let mut search = Search::new(board);
+    let mut joins = vec![0; board.job.nets.len() + 1];
+    joined_by(board, |net| {
+        let joins = &mut joins[usize::from(net.number())];
+        let join = search.cheapest(net).filter(|_| !ends(net.number(), *joins));
+        *joins += 1;
+        join
+    })
+}
+
+/// The router with one bound for each vertex.
+fn by_one_bound(board: &Board) -> Routed {
+    joined_by(board, |net| one_bound::join(board, net))
 }
 
 /// Where this result is a success.
@@ -48,7 +61,7 @@ fn routed(result: &RoutingResult) -> bool {
 
 /// The routers that must not pass by the specification, and small faults of every
 /// number and slice.
-const FAULTY: [(&str, Routing); 22] = [
+const FAULTY: [(&str, Routing); 23] = [
     ("none for a reachable pin", |job, map, work, plan| {
         let router = |board: &Board| ending(board, |_, joins| joins > 0);
         routing_by(router, job, map, work, plan)
@@ -60,6 +73,9 @@ const FAULTY: [(&str, Routing); 22] = [
     ("dearer joins", |job, map, work, plan| {
         let router = |board: &Board| wandering_plan(board, &mut Random::new(3));
         routing_by(router, job, map, work, plan)
+    }),
+    ("one bound for each vertex", |job, map, work, plan| {
+        routing_by(by_one_bound, job, map, work, plan)
     }),
     ("every job turned back", |_, _, _, _| {
         let (number, place) = (2, 0);

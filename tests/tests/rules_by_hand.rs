@@ -120,20 +120,34 @@ fn a_via_costs_the_price_of_the_lower_layer() {
 #[test]
 fn a_fresh_segment_is_extended_high_then_low() {
     assert_eq!(extended(via(0, FRESH, Up, &[])), (12, vec![1, 2, 3]));
+    assert_eq!(extended(via(1, FRESH, Up, &[])), (12, vec![2, 3, 0]));
+    assert_eq!(extended(via(2, FRESH, Up, &[])), (12, vec![3, 1, 0]));
     assert_eq!(extended(via(3, FRESH, Down, &[])), (12, vec![2, 1, 0]));
-    assert_eq!(penalised(via(1, FRESH, Up, &[])), 50);
-    assert_eq!(penalised(via(2, FRESH, Up, &[])), 50);
 }
 
 #[test]
-fn a_running_segment_is_extended_in_its_direction() {
+fn a_running_segment_is_extended_at_the_leaving_end_first() {
     let high = |length| running(Side::High, length);
     assert_eq!(extended(via(1, high(1), Up, &[])), (8, vec![2, 3]));
+    assert_eq!(extended(via(2, high(1), Up, &[])), (8, vec![3, 0]));
+    assert_eq!(extended(via(3, high(1), Up, &[])), (8, vec![1, 0]));
     assert_eq!(extended(via(2, high(2), Up, &[])), (4, vec![3]));
-    assert_eq!(penalised(via(3, high(2), Up, &[])), 50);
+    assert_eq!(extended(via(3, high(2), Up, &[])), (4, vec![0]));
     let low = |length| running(Side::Low, length);
     assert_eq!(extended(via(2, low(1), Down, &[])), (8, vec![1, 0]));
-    assert_eq!(penalised(via(0, low(2), Down, &[])), 50);
+    assert_eq!(extended(via(1, low(1), Down, &[])), (8, vec![0, 3]));
+    assert_eq!(extended(via(0, low(2), Down, &[])), (4, vec![3]));
+}
+
+/// No walk comes to these places: the track has fewer vertices behind them than they are long.
+#[test]
+fn the_track_s_end_is_the_first_vertex_of_a_segment_that_would_reach_beyond() {
+    let mut job = job();
+    job.layers[1].min_length = 5;
+    let up = |row, segment| make(&job, &[], (vertex(1, row, 2), segment), Up);
+    assert_eq!(extended(up(1, running(Side::High, 3))), (8, vec![2, 3]));
+    assert_eq!(penalised(up(2, running(Side::High, 3))), 50);
+    assert_eq!(extended(up(2, running(Side::Low, 3))), (8, vec![1, 0]));
 }
 
 #[test]

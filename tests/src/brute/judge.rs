@@ -45,11 +45,12 @@ impl Brute<'_> {
             if steps.windows(2).any(|pair| pair[0] != pair[1]) {
                 return None;
             }
+            let first = judged.vertices[end];
             end += steps.len();
             let first_or_last = index == 0 || index + 1 == segments.len();
             if !first_or_last {
-                let vertex = judged.vertices[end];
-                self.leave(vertex, steps, &mut judged)?;
+                let last = judged.vertices[end];
+                self.leave(first, last, steps, &mut judged)?;
             }
             end += 1;
         }
@@ -113,25 +114,24 @@ impl Brute<'_> {
         Some(u64::from(price))
     }
 
-    /// The overhead of a via out of a segment of these steps, which ends here.
-    fn leave(&self, vertex: usize, steps: &[Move], judged: &mut Judged) -> Option<()> {
-        let last = self.job.grid().numbered(vertex as u32);
-        let layer = &self.job.layers[last.layer as usize];
+    /// The overhead of a via out of a segment of these steps between these vertices.
+    fn leave(&self, first: usize, last: usize, steps: &[Move], judged: &mut Judged) -> Option<()> {
+        let on = self.job.grid().numbered(last as u32).layer;
+        let layer = &self.job.layers[on as usize];
         let missing = (layer.min_length as usize).saturating_sub(steps.len());
         if missing == 0 {
             return Some(());
         }
-        let sides = match steps.first() {
-            Some(side) => vec![*side],
-            None => vec![Move::High, Move::Low],
+        let (side, back) = match steps.first() {
+            Some(Move::Low) => (Move::Low, Move::High),
+            _ => (Move::High, Move::Low),
         };
-        for side in sides {
-            let clear = self.clear_beyond(last, side);
-            if clear.len() >= missing {
-                judged.cost += u64::from(layer.wire_price) * missing as u64;
-                judged.added.extend(&clear[..missing]);
-                return Some(());
-            }
+        let mut clear = self.clear_beyond(last, side);
+        clear.extend(self.clear_beyond(first, back));
+        if clear.len() >= missing {
+            judged.cost += u64::from(layer.wire_price) * missing as u64;
+            judged.added.extend(&clear[..missing]);
+            return Some(());
         }
         judged.cost += u64::from(Some(layer.area_penalty).filter(|price| *price != CLOSED)?);
         judged.penalties += 1;
@@ -139,9 +139,9 @@ impl Brute<'_> {
     }
 
     /// The clear vertices beyond this one, up to the first that isn't clear.
-    fn clear_beyond(&self, last: Vertex, side: Move) -> Vec<usize> {
+    fn clear_beyond(&self, vertex: usize, side: Move) -> Vec<usize> {
         let mut clear = Vec::new();
-        let mut at = last;
+        let mut at = self.job.grid().numbered(vertex as u32);
         while let Some(next) = self.entered(at, side) {
             let vertex = self.job.grid().number(next);
             if self.blocked(vertex) || self.taken(vertex) {

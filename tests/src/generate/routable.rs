@@ -1,6 +1,8 @@
 //! Random good jobs that are worth routing: grids small enough to search often,
 //! prices so close that routes tie, and nets that get in each other's way.
 
+use std::mem::swap;
+
 use super::{free_vertices, good_job, layers, penalty, some_nets, some_obstacles};
 use crate::grid::{vertex, Grid, Vertex, MOST_LAYERS};
 use crate::job::{GuideBox, Job, Layer, Net, Obstacle, CLOSED, MOST_PINS};
@@ -137,11 +139,32 @@ fn nets(size: Size, grid: &Grid, obstacles: &[Obstacle], random: &mut Random) ->
     let mut free = free_vertices(grid, obstacles);
     let mut nets = some_nets(count, most_pins, &mut free, grid, random);
     for net in &mut nets {
+        if random.one_in(2) {
+            stack(net, &mut free, random);
+        }
         if !net.boxes.is_empty() && !random.one_in(4) {
             net.boxes[0] = box_around(&net.pins, grid, random);
         }
     }
     nets
+}
+
+/// Puts the second pin two layers or more off the first and at most one row and one column
+/// aside, if a vertex there is free: between them a route has segments that are short.
+fn stack(net: &mut Net, free: &mut [Vertex], random: &mut Random) {
+    let first = net.pins[0];
+    let near = |v: &&mut Vertex| {
+        let aside = v
+            .row
+            .abs_diff(first.row)
+            .max(v.column.abs_diff(first.column));
+        v.layer.abs_diff(first.layer) >= 2 && aside <= 1
+    };
+    let mut places: Vec<&mut Vertex> = free.iter_mut().filter(near).collect();
+    if !places.is_empty() {
+        let place = random.index(places.len());
+        swap(&mut net.pins[1], places[place]);
+    }
 }
 
 /// A box with all pins, grown a little at some of its sides.

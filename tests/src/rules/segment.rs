@@ -17,6 +17,13 @@ impl Side {
             Side::High => Move::High,
         }
     }
+
+    pub fn opposite(self) -> Side {
+        match self {
+            Side::Low => Side::High,
+            Side::High => Side::Low,
+        }
+    }
 }
 
 #[derive(Clone, Copy, Debug, PartialEq, Eq)]

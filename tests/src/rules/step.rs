@@ -1,5 +1,7 @@
 //! One move from a place.
 
+use std::iter::successors;
+
 use crate::job::CLOSED;
 use crate::rules::moves::Move;
 use crate::rules::segment::{Segment, Side};
@@ -21,12 +23,21 @@ impl Place {
     }
 }
 
-/// Metal that is laid beyond the last vertex of a segment.
+/// Metal that is laid beyond the ends of a segment that a via leaves.
 #[derive(Clone, Copy, Debug, PartialEq, Eq)]
 pub struct Extension {
-    pub last: usize,
-    pub side: Side,
-    pub steps: u32,
+    /// The segment's last vertex, with its state there.
+    pub from: Place,
+    /// Steps at the leaving end, beyond the last vertex.
+    pub leaving: u32,
+    /// Steps at the starting end, beyond the first vertex.
+    pub starting: u32,
+}
+
+impl Extension {
+    pub fn steps(&self) -> u32 {
+        self.leaving + self.starting
+    }
 }
 
 /// What a legal move does.
@@ -98,13 +109,9 @@ impl View<'_> {
         if missing == 0 {
             return Ok(step);
         }
-        if let Some(side) = self.side_with_room(from, missing) {
+        if let Some(extension) = self.extension(from, missing) {
             step.overhead = layer.wire_price * missing;
-            step.extension = Some(Extension {
-                last: from.vertex,
-                side,
-                steps: missing,
-            });
+            step.extension = Some(extension);
         } else if layer.area_penalty == CLOSED {
             return Err(Cause::AreaClosed);
         } else {
@@ -114,25 +121,62 @@ impl View<'_> {
         Ok(step)
     }
 
-    /// "Beyond its last vertex, in its direction, count clear vertices. A fresh
-    /// segment tries high, then low."
-    fn side_with_room(&self, from: Place, missing: u32) -> Option<Side> {
-        let room = |side: &Side| self.clear_beyond(from.vertex, *side) >= missing;
-        match from.segment {
-            Segment::Fresh => [Side::High, Side::Low].into_iter().find(room),
-            Segment::Running { side, .. } => Some(side).filter(room),
-            Segment::Paid { .. } => None,
+    /// "The clear vertices beyond the last vertex and those beyond the segment's first vertex
+    /// are counted together. Extension is laid at the leaving end first, then at the starting
+    /// end." None where they are too few.
+    fn extension(&self, from: Place, missing: u32) -> Option<Extension> {
+        let side = leaving_side(from.segment)?;
+        let leaving = missing.min(self.clear_beyond(from.vertex, side));
+        let starting = missing - leaving;
+        let room =
+            starting == 0 || starting <= self.clear_beyond(self.first(from), side.opposite());
+        room.then_some(Extension {
+            from,
+            leaving,
+            starting,
+        })
+    }
+
+    /// The first vertex of the segment that has come here: as many steps back as it is long, or
+    /// the end of the track where that comes before.
+    fn first(&self, last: Place) -> usize {
+        match last.segment {
+            Segment::Running { side, length } => {
+                let back = self.along(last.vertex, side.opposite());
+                back.take(length as usize).last().unwrap_or(last.vertex)
+            }
+            Segment::Fresh | Segment::Paid { .. } => last.vertex,
         }
     }
 
-    /// The vertices that an extension lays.
+    /// The vertices beyond this one, up to the end of its track.
+    fn along(&self, vertex: usize, side: Side) -> impl Iterator<Item = usize> + '_ {
+        let next = move |vertex: &usize| self.board.neighbours.entered(*vertex, side.step());
+        successors(next(&vertex), next)
+    }
+
+    /// The vertices that an extension lays, in the order in which they are laid.
     pub fn laid(&self, extension: Extension) -> impl Iterator<Item = usize> + '_ {
-        let by = extension.side.step();
-        let mut last = extension.last;
-        (0..extension.steps).map(move |_| {
-            let next = self.board.neighbours.entered(last, by);
-            last = next.expect("an extension stays in the grid");
-            last
-        })
+        let Extension {
+            from,
+            leaving,
+            starting,
+        } = extension;
+        let side = leaving_side(from.segment).expect("only a segment that owes is extended");
+        let beyond_last = self.along(from.vertex, side);
+        let beyond_first = self.along(self.first(from), side.opposite());
+        beyond_last
+            .take(leaving as usize)
+            .chain(beyond_first.take(starting as usize))
+    }
+}
+
+/// Where a segment that owes is extended first: in its direction, and "a fresh segment takes
+/// high, then low".
+fn leaving_side(segment: Segment) -> Option<Side> {
+    match segment {
+        Segment::Fresh => Some(Side::High),
+        Segment::Running { side, .. } => Some(side),
+        Segment::Paid { .. } => None,
     }
 }
