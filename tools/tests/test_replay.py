@@ -10,7 +10,7 @@ from maizetext.refusals import Refused
 from maizetext.replay import replay
 from marked import LETTERS, job_bytes, plan_bytes
 
-COSTS = {"A": 3, "B": 10, "C": 58, "D": 0, "E": 7, "F": 54, "G": 0, "H": 17, "I": 10, "J": 13, "K": 76, "L": 2}
+COSTS = {"A": 3, "B": 10, "C": 58, "D": 0, "E": 7, "F": 54, "G": 0, "H": 7, "I": 10, "J": 13, "K": 76, "L": 2}
 
 
 def answer(job: bytes, plan: bytes) -> tuple[int, ...]:
@@ -55,7 +55,7 @@ class MarkedPlans(unittest.TestCase):
     def test_extensions_and_penalties(self):
         self.assertEqual(answer(job_bytes("B"), plan_bytes("B"))[3:], (2, 0, 1))
         self.assertEqual(answer(job_bytes("C"), plan_bytes("C"))[3:], (0, 1, 1))
-        self.assertEqual(answer(job_bytes("H"), plan_bytes("H"))[3:], (4, 0, 1))
+        self.assertEqual(answer(job_bytes("H"), plan_bytes("H"))[3:], (2, 0, 1))
 
     def test_the_last_segment_pays_none(self):
         trace = replay(read_job(job_bytes("B")), plan_bytes("B"))
@@ -103,7 +103,7 @@ class DamagedPlans(unittest.TestCase):
         self.join("A", (HIGH, LOW), 17, 42, "the step goes back: the segment runs high")
         self.join("A", (HIGH, HIGH), 17, 42, "the last move enters (0,0,2), which is no unjoined pin")
         self.join("A", (HIGH, HIGH, HIGH, HIGH), 17, 44, "enters the unjoined pin (0,0,3) before the last move")
-        self.join("G", (UP, UP), 17, 42, "lacks 3 of 3 steps, there is no room, and the area penalty is closed")
+        self.join("G", (UP, UP), 17, 42, "lacks 3 of 3 steps, its two ends have room for 2, and the area penalty is closed")
 
     def test_closed_shorts_and_other_pins(self):
         first = Join(Vertex(1, 0, 0), (HIGH, HIGH), 2)
