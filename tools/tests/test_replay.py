@@ -24,17 +24,32 @@ def answer(job: bytes, plan: bytes) -> tuple[int, ...]:
     return 0, 0, trace.total("cost"), trace.total("added"), trace.total("penalised"), trace.joined()
 
 
+def pairs() -> list[list[str]]:
+    """Jobs, plans and what the second replay answers."""
+    lines = (support.TOOLS / "tests" / "replays.txt").read_text().splitlines()
+    return [line.split("|") for line in lines if not line.startswith("#")]
+
+
+def ends_met(job: bytes, plan: bytes) -> set[tuple[bool, bool]]:
+    """For each extension of a plan, whether something is laid at its leaving and at its starting end."""
+    moves = [made for net in replay(read_job(job), plan).nets for join in net.joins for made in join.moves]
+    return {(bool(made.over.leaving), bool(made.over.starting)) for made in moves if made.over.laid}
+
+
 class SecondReplay(unittest.TestCase):
     def test_answers_agree(self):
-        lines = (support.TOOLS / "tests" / "replays.txt").read_text().splitlines()
-        pairs = [line.split("|") for line in lines if not line.startswith("#")]
         met = set()
-        for job, plan, expected in pairs:
+        for job, plan, expected in pairs():
             numbers = tuple(map(int, expected.split()))
             met.add(numbers[0])
             with self.subTest(job=job, plan=plan):
                 self.assertEqual(answer(bytes.fromhex(job), bytes.fromhex(plan)), numbers)
         self.assertEqual(met, {0, *range(2, 12), *range(15, 19)})
+
+    def test_they_lay_at_either_end_and_at_both(self):
+        good = [pair for pair in pairs() if pair[2].startswith("0 ")]
+        met = set().union(*(ends_met(bytes.fromhex(job), bytes.fromhex(plan)) for job, plan, _ in good))
+        self.assertEqual(met, {(True, False), (False, True), (True, True)})
 
 
 class MarkedPlans(unittest.TestCase):
