@@ -5,12 +5,14 @@ from typing import Any
 
 import support  # noqa: F401
 from maizetext.errors import Illegal
-from maizetext.grid import HIGH, LOW
+from maizetext.grid import DOWN, HIGH, LOW, UP, Vertex
 from maizetext.overheads import Overhead, overhead
+from maizetext.plan import Join, pack_plan
+from maizetext.replay import replay
 from maizetext.segments import FRESH, START, Segment
 from maizetext.standing import metal_at_first
 from maizetext.views import Board, View
-from tracks import AREA, WIRE, on_track, track
+from tracks import AREA, ONE_STEP_UP, SHORT, VIA, WIRE, on_track, track, track_of
 
 PENALISED = Overhead(AREA, penalised=True)
 Rows = tuple[int, ...]
@@ -88,6 +90,33 @@ class OwnMetal(unittest.TestCase):
     def test_it_is_not_where_another_net_has_metal_too(self):
         self.assertEqual(owed(4, running(HIGH, 1), own=(1, 2), other=(1,), obstacles=(6,)), PENALISED)
         self.assertEqual(owed(4, running(HIGH, 1), own=(5, 6), other=(6,)), laid((5,), (2, 1)))
+
+
+class OwnMetalOfPlans(unittest.TestCase):
+    """Net 1 has a pin in row 1 of the track; its last join makes a step from row 3 to row 4, and row 6 is blocked."""
+
+    PINS = (Vertex(0, 3, 0), *on_track(1), Vertex(2, 4, 0))
+
+    def last_overhead(self, nets: list[tuple[Vertex, ...]], records: list[Join]) -> Overhead:
+        trace = replay(track_of(nets, (6,)), pack_plan(records))
+        self.assertIsNone(trace.broken)
+        return trace.nets[-1].joins[-1].moves[-1].over
+
+    def test_an_earlier_join_is_clear(self):
+        down = Join(self.PINS[0], (UP, LOW, LOW), 12)
+        self.assertEqual(self.last_overhead([self.PINS], [down, ONE_STEP_UP]), laid((5,), (2, 1)))
+
+    def test_it_is_not_where_it_made_a_short(self):
+        other = (Vertex(0, 2, 0), Vertex(2, 2, 0))
+        across = Join(other[0], (UP, UP), 2 * VIA + AREA)
+        down = Join(self.PINS[0], (UP, LOW, LOW), 12 + SHORT)
+        records = [across, down, ONE_STEP_UP._replace(cost=2 * VIA + WIRE + AREA)]
+        self.assertEqual(self.last_overhead([other, self.PINS], records), PENALISED)
+
+    def test_the_join_itself_is_clear(self):
+        pins = (*on_track(1), Vertex(2, 4, 0))
+        through = Join(pins[0], (HIGH, HIGH, DOWN, UP, HIGH, UP), 6 * WIRE + 3 * VIA + AREA)
+        self.assertEqual(self.last_overhead([pins], [through]), laid((5,), (2, 1)))
 
 
 class OtherPins(unittest.TestCase):
