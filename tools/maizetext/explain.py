@@ -4,6 +4,7 @@ from typing import Iterator
 
 from maizetext.grid import MOVES
 from maizetext.job import Job
+from maizetext.overheads import Overhead
 from maizetext.replay import JoinTrace, NetTrace, Trace, replay
 from maizetext.steps import Made
 from maizetext.words import job_line, totals_line, vertices
@@ -58,8 +59,14 @@ def move_line(number: int, made: Made, so_far: int) -> str:
     numbers = f"{price.base:6}{dash(price.guide):>7}{dash(price.short):>7}{dash(made.over.price):>10}{so_far:10}"
     line = f"  {number:5}  {MOVES[made.move]:4}  {made.place.vertex!s:11}{numbers}"
     if made.over.laid:
-        return f"{line}  extension {vertices(made.over.laid)}"
+        return f"{line}  extension {ends(made.over)}"
     return f"{line}  area penalty" if made.over.penalised else line
+
+
+def ends(over: Overhead) -> str:
+    """What an extension lays at each end; nothing is said of an end without."""
+    laid = (("leaving", over.leaving), ("starting", over.starting))
+    return ", ".join(f"{vertices(run)} at the {end} end" for end, run in laid if run)
 
 
 def dash(price: int) -> str:

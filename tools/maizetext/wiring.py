@@ -39,11 +39,15 @@ def wires(trace: Trace) -> Iterator[Stretch]:
 
 
 def extensions(trace: Trace) -> Iterator[Stretch]:
-    """From the last vertex of a short segment over what was laid beyond it."""
+    """From each end of a short segment, its last and its first vertex, over what was laid beyond it."""
     for net, join in joins(trace):
+        first = join.start
         for made in join.moves:
-            if made.over.laid:
-                yield Stretch(net, made.start, made.over.laid[-1])
+            for end, laid in ((made.start, made.over.leaving), (first, made.over.starting)):
+                if laid:
+                    yield Stretch(net, end, laid[-1])
+            if not is_step(made):
+                first = made.place.vertex
 
 
 def vias(trace: Trace) -> Iterator[tuple[int, Vertex]]:

@@ -1,7 +1,7 @@
 """The twelve marked jobs, A to L, by their bytes, and the records that routing them writes."""
 
 import support  # noqa: F401
-from maizetext.grid import DOWN, HIGH, LOW, UP, Vertex
+from maizetext.grid import DOWN, HIGH, UP, Vertex
 from maizetext.plan import Join, pack_plan
 
 JOBS = {
@@ -27,7 +27,7 @@ RECORDS = {
     "E": [Join(Vertex(0, 0, 0), (UP, UP), 7)],
     "F": [Join(Vertex(0, 0, 0), (UP, UP), 54)],
     "G": [None],
-    "H": [Join(Vertex(0, 3, 3), (UP, LOW, LOW, DOWN, UP, HIGH, HIGH, HIGH, UP), 17)],
+    "H": [Join(Vertex(0, 3, 3), (UP, HIGH, UP), 7)],
     "I": [Join(Vertex(0, 0, 0), (HIGH, HIGH, HIGH), 3), Join(Vertex(0, 0, 1), (UP, HIGH, DOWN), 7)],
     "J": [Join(Vertex(0, 0, 0), (HIGH, HIGH, HIGH), 13)],
     "K": [Join(Vertex(1, 0, 0), (HIGH, HIGH), 2), Join(Vertex(0, 1, 0), (UP, UP), 74)],

@@ -9,12 +9,31 @@ import support
 from generated import good_job
 from maizetext.colours import net_colour
 from maizetext.draw import draw
+from maizetext.grid import UP, Vertex
+from maizetext.job import Job
 from maizetext.job_reading import read_job
+from maizetext.panel import Panel
+from maizetext.plan import Join, pack_plan
 from maizetext.replay import replay
 from maizetext.text_reading import read_text
-from marked import job_bytes, plan_bytes
+from marked import RECORDS, job_bytes, plan_bytes
+from tracks import ONE_STEP_UP, on_track, track
 
 SVG = "{http://www.w3.org/2000/svg}"
+
+FRESH = """\
+edition 1
+grid layers 3 rows 4 columns 1 direction column
+guide 10
+short 20
+layer wire 1 via 2 min 3 area 50
+layer wire 1 via 2 min 3 area 50
+layer wire 1 via 0 min 3 area 50
+net
+  pin 0 2 0
+  pin 2 2 0
+"""
+"""Two vias, one above the other, with one vertex high of them and two low."""
 
 
 def marks(picture: str) -> Counter:
@@ -31,6 +50,18 @@ def picture_of(letter: str) -> str:
     return draw(job, replay(job, plan_bytes(letter)))
 
 
+def extensions(job: Job, records: list[Join]) -> list[tuple[Vertex, Vertex]]:
+    """From where to where the extensions of layer 1 are drawn."""
+    vertices = (Vertex(1, row, column) for row in range(job.grid.rows) for column in range(job.grid.columns))
+    at = {Panel(job.grid, 1).at(v): v for v in vertices}
+    trace = replay(job, pack_plan(records))
+    assert trace.broken is None, trace.broken
+    root = ElementTree.fromstring(draw(job, trace))
+    layer = next(group for group in root.iter(f"{SVG}g") if group.get("id") == "layer-1")
+    lines = [mark for mark in layer.iter(f"{SVG}line") if mark.get("class") == "extension"]
+    return [tuple(at[float(line.get(f"x{end}")), float(line.get(f"y{end}"))] for end in "12") for line in lines]
+
+
 class Pictures(unittest.TestCase):
     def counted(self, letter: str, **expected: int) -> None:
         found = marks(picture_of(letter))
@@ -41,9 +72,23 @@ class Pictures(unittest.TestCase):
         self.counted("A", layer=2, pin=2, wire=1, via_up=0, via_down=0, extension=0, short=0, obstacle=0, track=12)
         self.counted("B", layer=2, pin=2, wire=2, via_up=2, via_down=2, extension=1, short=0)
         self.counted("E", layer=3, pin=2, wire=0, via_up=2, via_down=2, extension=1)
-        self.counted("H", layer=3, pin=2, wire=2, via_up=3, via_down=3, extension=2)
+        self.counted("H", layer=3, pin=2, wire=1, via_up=2, via_down=2, extension=1)
         self.counted("J", guide=1, pin=2, wire=1)
         self.counted("K", pin=4, wire=1, via_up=2, via_down=2, short=1)
+
+    def test_extensions_go_out_from_each_end(self):
+        first, last = on_track(3, 4)
+        leaving, starting = [(last, Vertex(1, 5, 0))], [(first, Vertex(1, 1, 0))]
+        self.assertEqual(extensions(track(), [ONE_STEP_UP]), [(last, Vertex(1, 7, 0))])
+        self.assertEqual(extensions(track((6,)), [ONE_STEP_UP]), leaving + starting)
+        self.assertEqual(extensions(track((5, 0)), [ONE_STEP_UP._replace(cost=59)]), [])
+        self.assertEqual(extensions(read_job(job_bytes("H")), RECORDS["H"]), [(Vertex(1, 3, 3), Vertex(1, 1, 3))])
+
+    def test_an_extension_of_a_fresh_segment_goes_both_ways(self):
+        job = read_text(FRESH, "fresh")
+        self.assertEqual(extensions(job, [Join(Vertex(0, 2, 0), (UP, UP), 7)]), [
+            (Vertex(1, 2, 0), Vertex(1, 3, 0)), (Vertex(1, 2, 0), Vertex(1, 0, 0))
+        ])
 
     def test_open_pins_are_hollow(self):
         found = marks(picture_of("L"))
@@ -55,7 +100,7 @@ class Pictures(unittest.TestCase):
         found = marks(draw(job, replay(job, plan)))
         self.assertEqual(found["obstacle"], len(job.obstacles))
         self.assertEqual(found["pin"] + found["pin open"], sum(len(net.pins) for net in job.nets))
-        self.assertEqual((found["pin open"], found["short"], found["extension"]), (1, 5, 3))
+        self.assertEqual((found["pin open"], found["short"], found["extension"]), (1, 4, 4))
         self.assertEqual(found["guide"], sum(box.high.layer - box.low.layer + 1 for net in job.nets for box in net.boxes))
 
     def test_a_job_alone(self):

@@ -58,8 +58,8 @@ class Examples(unittest.TestCase):
     def test_the_plan_of_the_crossing(self):
         trace = replay(example("crossing.txt"), bytes.fromhex((EXAMPLES / "crossing.plan").read_text()))
         self.assertIsNone(trace.broken)
-        self.assertEqual((trace.total("cost"), trace.total("added"), trace.total("penalised"), trace.joined()), (110, 7, 1, 4))
-        self.assertEqual(len(shorts(trace)), 5)
+        self.assertEqual((trace.total("cost"), trace.total("added"), trace.total("penalised"), trace.joined()), (107, 6, 1, 4))
+        self.assertEqual(len(shorts(trace)), 4)
 
     def test_the_picture_is_up_to_date(self):
         job = example("crossing.txt")

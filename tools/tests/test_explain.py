@@ -8,6 +8,7 @@ from maizetext.grid import HIGH, LOW, UP, Vertex
 from maizetext.job_reading import read_job
 from maizetext.plan import Join, pack_plan
 from marked import LETTERS, RECORDS, job_bytes, plan_bytes
+from tracks import ONE_STEP_UP, track
 
 B = """\
 job: 2 layers, 4 rows, 8 columns; 1 net, 0 obstacles
@@ -19,7 +20,7 @@ net 1: pins (0,0,0) (0,1,3)
       3  high  (0,0,3)         1      -      -         -         3
       4  up    (1,0,3)         2      -      -         -         5
       5  high  (1,1,3)         1      -      -         -         6
-      6  down  (0,1,3)         2      -      -         2        10  extension (1,2,3) (1,3,3)
+      6  down  (0,1,3)         2      -      -         2        10  extension (1,2,3) (1,3,3) at the leaving end
     cost 10, as recorded
   joined: cost 10
 totals: cost 10, added steps 2, penalised segments 0, nets fully joined 1 of 1
@@ -43,6 +44,19 @@ class Explained(unittest.TestCase):
                 said = [line for line in lines if line.startswith("    cost")]
                 costs = [f"    cost {join.cost}, as recorded" for join in RECORDS[letter] if join]
                 self.assertEqual(said, costs)
+
+    def test_extensions_at_each_end(self):
+        for obstacles, said in (
+            ((), "extension (1,5,0) (1,6,0) (1,7,0) at the leaving end"),
+            ((6,), "extension (1,5,0) at the leaving end, (1,2,0) (1,1,0) at the starting end"),
+            ((5,), "extension (1,2,0) (1,1,0) (1,0,0) at the starting end"),
+        ):
+            text, legal = explain(track(obstacles), pack_plan([ONE_STEP_UP]))
+            self.assertTrue(legal)
+            self.assertIn(f"      3  up    (2,4,0)         2      -      -        15        24  {said}\n", text)
+
+    def test_h_lays_at_the_starting_end(self):
+        self.assertTrue(self.explained("H", plan_bytes("H"))[0][6].endswith(" 7  extension (1,2,3) (1,1,3) at the starting end"))
 
     def test_penalties(self):
         self.assertTrue(any(line.endswith("50        58  area penalty") for line in self.explained("C", plan_bytes("C"))[0]))

@@ -10,7 +10,7 @@ from maizetext.refusals import Refused
 from maizetext.replay import replay
 from marked import LETTERS, job_bytes, plan_bytes
 
-COSTS = {"A": 3, "B": 10, "C": 58, "D": 0, "E": 7, "F": 54, "G": 0, "H": 17, "I": 10, "J": 13, "K": 76, "L": 2}
+COSTS = {"A": 3, "B": 10, "C": 58, "D": 0, "E": 7, "F": 54, "G": 0, "H": 7, "I": 10, "J": 13, "K": 76, "L": 2}
 
 
 def answer(job: bytes, plan: bytes) -> tuple[int, ...]:
@@ -24,17 +24,32 @@ def answer(job: bytes, plan: bytes) -> tuple[int, ...]:
     return 0, 0, trace.total("cost"), trace.total("added"), trace.total("penalised"), trace.joined()
 
 
+def pairs() -> list[list[str]]:
+    """Jobs, plans and what the second replay answers."""
+    lines = (support.TOOLS / "tests" / "replays.txt").read_text().splitlines()
+    return [line.split("|") for line in lines if not line.startswith("#")]
+
+
+def ends_met(job: bytes, plan: bytes) -> set[tuple[bool, bool]]:
+    """For each extension of a plan, whether something is laid at its leaving and at its starting end."""
+    moves = [made for net in replay(read_job(job), plan).nets for join in net.joins for made in join.moves]
+    return {(bool(made.over.leaving), bool(made.over.starting)) for made in moves if made.over.laid}
+
+
 class SecondReplay(unittest.TestCase):
     def test_answers_agree(self):
-        lines = (support.TOOLS / "tests" / "replays.txt").read_text().splitlines()
-        pairs = [line.split("|") for line in lines if not line.startswith("#")]
         met = set()
-        for job, plan, expected in pairs:
+        for job, plan, expected in pairs():
             numbers = tuple(map(int, expected.split()))
             met.add(numbers[0])
             with self.subTest(job=job, plan=plan):
                 self.assertEqual(answer(bytes.fromhex(job), bytes.fromhex(plan)), numbers)
         self.assertEqual(met, {0, *range(2, 12), *range(15, 19)})
+
+    def test_they_lay_at_either_end_and_at_both(self):
+        good = [pair for pair in pairs() if pair[2].startswith("0 ")]
+        met = set().union(*(ends_met(bytes.fromhex(job), bytes.fromhex(plan)) for job, plan, _ in good))
+        self.assertEqual(met, {(True, False), (False, True), (True, True)})
 
 
 class MarkedPlans(unittest.TestCase):
@@ -55,7 +70,7 @@ class MarkedPlans(unittest.TestCase):
     def test_extensions_and_penalties(self):
         self.assertEqual(answer(job_bytes("B"), plan_bytes("B"))[3:], (2, 0, 1))
         self.assertEqual(answer(job_bytes("C"), plan_bytes("C"))[3:], (0, 1, 1))
-        self.assertEqual(answer(job_bytes("H"), plan_bytes("H"))[3:], (4, 0, 1))
+        self.assertEqual(answer(job_bytes("H"), plan_bytes("H"))[3:], (2, 0, 1))
 
     def test_the_last_segment_pays_none(self):
         trace = replay(read_job(job_bytes("B")), plan_bytes("B"))
@@ -103,7 +118,7 @@ class DamagedPlans(unittest.TestCase):
         self.join("A", (HIGH, LOW), 17, 42, "the step goes back: the segment runs high")
         self.join("A", (HIGH, HIGH), 17, 42, "the last move enters (0,0,2), which is no unjoined pin")
         self.join("A", (HIGH, HIGH, HIGH, HIGH), 17, 44, "enters the unjoined pin (0,0,3) before the last move")
-        self.join("G", (UP, UP), 17, 42, "lacks 3 of 3 steps, there is no room, and the area penalty is closed")
+        self.join("G", (UP, UP), 17, 42, "lacks 3 of 3 steps, its two ends have room for 2, and the area penalty is closed")
 
     def test_closed_shorts_and_other_pins(self):
         first = Join(Vertex(1, 0, 0), (HIGH, HIGH), 2)

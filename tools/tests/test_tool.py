@@ -15,13 +15,13 @@ from support import EXAMPLES, maize
 A = EXAMPLES / "marked" / "a.txt"
 
 CROSSING = """\
-job: 3 layers, 8 rows, 10 columns; 5 nets, 15 obstacles
+job: 3 layers, 8 rows, 10 columns; 5 nets, 16 obstacles
 net 1: joined  2 of 2 pins, cost 9, added steps 0, penalised segments 0
-net 2: joined  3 of 3 pins, cost 30, added steps 3, penalised segments 0
-net 3: joined  2 of 2 pins, cost 39, added steps 4, penalised segments 0
-net 4: joined  3 of 3 pins, cost 32, added steps 0, penalised segments 1
+net 2: joined  3 of 3 pins, cost 30, added steps 2, penalised segments 0
+net 3: joined  2 of 2 pins, cost 35, added steps 4, penalised segments 0
+net 4: joined  3 of 3 pins, cost 33, added steps 0, penalised segments 1
 net 5: open    1 of 2 pins, cost 0, added steps 0, penalised segments 0; open pins (0,7,8)
-totals: cost 110, added steps 7, penalised segments 1, nets fully joined 4 of 5
+totals: cost 107, added steps 6, penalised segments 1, nets fully joined 4 of 5
 """
 
 
