@@ -16,9 +16,9 @@ use Rattle.paths.specs.Distances.{isCost, onward, keeps, lowestFrom, lowestKeep
 use Rattle.paths.specs.Starts.{orNext, best, startCost}
 use Rattle.rules.specs.Tracks.{layerOf, rowOf, columnOf, trackIndex, trackLength, ifThere, entered}
 use Rattle.rules.specs.Views.{member, othersHold, between, inBox, inGuide, pinsOf, boxesOf, viewOf}
-use Rattle.rules.specs.Segments.{kindOf, against, ofLength, notAgainst, grow}
+use Rattle.rules.specs.Segments.{opposite, kindOf, against, ofLength, notAgainst, grow}
 use Rattle.rules.specs.Prices.{techOf, lineOf, charge, penalty, base, guideAt, shortAt, sumCost, entering}
-use Rattle.rules.specs.Overheads.{clear, toward, onFrom, clearRun, otherwise, lengthenedBy, lengthenedOn, overheadOf}
+use Rattle.rules.specs.Overheads.{clear, toward, onFrom, clearRun, backFrom, firstOf, bothEnds, otherwise, lengthenedBy, tooShort, overheadOf}
 use Rattle.rules.specs.Steps.{leaving, stepping, bySegment, ifPriced, into, step, priced}
 use Rattle.rules.specs.Walks.{startAt, after, goOn, walk}
 use Rattle.rules.specs.Standings.{metalAtFirst, begun, without, more, joinedBy}
@@ -60,8 +60,8 @@ unfolding All rows rowA rowB rowC rowD rowE rowF rowG rowH rowI rowJ rowK rowL
     any all vertices vertexNumber same stepsColumn covered onObstacle largestMinLength strideOf
     isCost onward keeps lowestFrom lowestKeeping moveOn follow orNext best startCost
     layerOf rowOf columnOf trackIndex trackLength ifThere entered member othersHold between inBox inGuide pinsOf boxesOf viewOf
-    kindOf against ofLength notAgainst grow techOf lineOf charge penalty base guideAt shortAt sumCost entering
-    clear toward onFrom clearRun otherwise lengthenedBy lengthenedOn overheadOf leaving stepping bySegment ifPriced into step priced
+    opposite kindOf against ofLength notAgainst grow techOf lineOf charge penalty base guideAt shortAt sumCost entering
+    clear toward onFrom clearRun backFrom firstOf bothEnds otherwise lengthenedBy tooShort overheadOf leaving stepping bySegment ifPriced into step priced
     startAt after goOn walk flatMap metalAtFirst begun without more joinedBy places joinFrom joinBy segmentCode
     entryCost tableCost withinTest settledTest supportedTest movesTest placeTest allBelow allSegments certified
     withRecords afterMoves afterRecord byTable netBy thenNets netsBy answerOf written

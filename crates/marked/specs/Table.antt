@@ -111,12 +111,12 @@ rowG = record {
   records = none ∷ [];
 }
 
--- "H three layers, 5 rows, (0,3,3) to (2,4,3): 17; up, low, low, down, up, high, high, high, up."
+-- "H three layers, 5 rows, (0,3,3) to (2,4,3)": "7 with moves up, high, up"
 unfoldable pub rowH : Row
 rowH = record {
   bytes = 0x12 ∷ 0x07 ∷ 0x04 ∷ 0x00 ∷ 0x0A ∷ 0x00 ∷ 0x14 ∷ 0x01 ∷ 0x00 ∷ 0x00 ∷ 0x00 ∷ 0x40 ∷ 0x23 ∷ 0x00 ∷ 0x32 ∷ 0x00 ∷ 0x40 ∷ 0x23 ∷ 0x00 ∷ 0x32 ∷ 0x00 ∷ 0x40 ∷ 0x03 ∷ 0x00 ∷ 0x32 ∷ 0x10 ∷ 0x00 ∷ 0x60 ∷ 0x68 ∷ 0x10 ∷ 0x0C ∷ [];
   job = plainJob 3 8 5 3 50 20 (record { pins = pin 0 3 3 ∷ pin 2 4 3 ∷ []; boxes = [] } ∷ []);
-  records = join 27 (3 ∷ 0 ∷ 0 ∷ 2 ∷ 3 ∷ 1 ∷ 1 ∷ 1 ∷ 3 ∷ []) 17 ∷ [];
+  records = join 27 (3 ∷ 1 ∷ 3 ∷ []) 7 ∷ [];
 }
 
 -- "I pins (0,0,0), (0,0,3), (0,1,1): 3, then 7."
