@@ -89,6 +89,9 @@ fn too_short(
     let mut leaving = 0;
     'ends: for which in 0..2 {
         leaving = laid;
+        if laid == missing {
+            continue 'ends;
+        }
         let end = end_on(track, v, toward, length, which);
         let away = end.toward;
         let mut last = end.vertex;
