@@ -53,7 +53,7 @@ module _ {tech : TechStruct} (held : TechFits tech) (seen : List ℕ) {spots bou
   module _ {start count : ℕ} (so-far : Counting (techBy tech) view spots bounds work best start (placeOf place) count)
       (goes : eqb (getD spots (place .vertex) 0) 2 ≡ false) {number : ℕ}
       (told : number ≡ leadAt (techBy tech) work (placeOf place)) {r : SteppedEnum}
-      (stepped : IsStepped (gridOf (tech .grid)) view (place .vertex) r (step (techBy tech) view (placeOf place) number)) where
+      (stepped : IsStepped (gridOf (tech .grid)) view (placeOf place) r (step (techBy tech) view (placeOf place) number)) where
     -- a place of a cheapest join has a cost to go
     cost-here : (c : ℕ) × (toGo (techBy tech) view spots (placeOf place) ≡ fin c)
     cost-here = by (so-far .joins goes)

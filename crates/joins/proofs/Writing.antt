@@ -136,7 +136,7 @@ module _ (tech : TechStruct) (seen bounds work : List ℕ) (net from best count 
         rw (so-far .made .is .place) at told ∙ on-lowest (techBy tech) view (first .spots) charted (fits .good) place-good (so-far .joins some) (onward .entry)
 
     module _ {number : ℕ} (numbered : Lowest number) {r : SteppedEnum}
-        (stepped : IsStepped (gridOf (tech .grid)) view (walk .place .vertex) r (step (techBy tech) view (placeOf (walk .place)) number)) where
+        (stepped : IsStepped (gridOf (tech .grid)) view (placeOf (walk .place)) r (step (techBy tech) view (placeOf (walk .place)) number)) where
       -- what it leads to
       leads : priced (step (techBy tech) view (placeOf (walk .place)) number) ≡ to (onward .price) (onward .next)
       leads = rw (so-far .made .is .place, numbered) (onward .leads)
@@ -153,13 +153,13 @@ module _ (tech : TechStruct) (seen bounds work : List ℕ) (net from best count 
       module _ (m : MadeStruct) (told : r ≡ Legal m) where
         -- the definition's move
         abbrev made : Made
-        made = madeBy (gridOf (tech .grid)) view (walk .place .vertex) m
+        made = madeBy (gridOf (tech .grid)) view (placeOf (walk .place)) m
 
         is-step : step (techBy tech) view (placeOf (walk .place)) number ≡ legal made
         unfolding steppedBy
         is-step = sym (rw told at (stepped .same))
 
-        is-whole : WholeMade (gridOf (tech .grid)) view (walk .place .vertex) m
+        is-whole : WholeMade (gridOf (tech .grid)) view (placeOf (walk .place)) m
         unfolding WholeStep
         is-whole = rw told at (stepped .whole)
 
@@ -186,7 +186,7 @@ module _ (tech : TechStruct) (seen bounds work : List ℕ) (net from best count 
         -- after the move
         pub writing-on : TechFits tech → Charted (techBy tech) view (first .spots) bounds work best → {more after longer : List ℕ} {further : Walk} {next : ℕ}
             → more ≡ set spots (m .next .vertex) 1
-            → after ≡ layAll net (extended (gridOf (tech .grid)) (walk .place .vertex) (m .extension) ++ (m .next .vertex ∷ [])) codes
+            → after ≡ layAll net (extended (gridOf (tech .grid)) (placeOf (walk .place)) (m .extension) ++ (m .next .vertex ∷ [])) codes
             → longer ≡ putBits plan at (fieldBits 2 number) → next ≡ at + 2 → further ≡ walkOn walk m
             → Writing more after longer further next (left - 1)
         unfolding goneOn madeBy flatMap

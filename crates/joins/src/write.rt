@@ -72,7 +72,7 @@ pub fn write_moves(
         };
         let cursor = Cursor { at };
         let next = cursor.put(plan, 2, number);
-        enter_move(map, spots, tech.grid, place.vertex, made, net);
+        enter_move(map, spots, tech.grid, place, made, net);
         walk = walk_on(walk, made);
         at = next.at;
         left -= 1;

@@ -13,9 +13,9 @@ use Rattle.job.specs.Lists.{All}
 use Rattle.job.specs.Grid.{Grid, vertices}
 use Rattle.rules.specs.Tracks.{Entered, outside, at, entered}
 use Rattle.rules.specs.Views.{View}
-use Rattle.rules.specs.Segments.{Direction, opposite}
+use Rattle.rules.specs.Segments.{Direction, opposite, Place}
 use Rattle.rules.specs.Overheads.{clear, toward, onFrom, clearRun, firstOf}
-use Rattle.rules.specs.Structs.{directionOf, roomToward, laidBy, Whole}
+use Rattle.rules.specs.Structs.{headingOf, stepsOf, roomToward, laidBy, Whole}
 use Rattle.rules.specs.declared.overhead.Extension.{Extension}
 use Rattle.rules.proofs.Neighbours.{entered-below}
 use Rattle.rules.proofs.Rooms.{nextToward, onward, room-enters, room-ends}
@@ -65,8 +65,9 @@ beyond-room g d (suc n) v h = by (roomToward g d v) refl (beyond-room g d n)
         rw (one, room-enters g d v room) (ap (λ (vs : List ℕ). nextToward g d v ∷ vs) (rest _ (on .onGrid)))
 
 -- where an extension is whole, its vertices are those that it lays
-pub extended-clear : (g : Grid) (view : View) (v : ℕ) (e : Extension) → Whole g view v e → extended g v e ≡ laidBy g view v e
+pub extended-clear : (g : Grid) (view : View) (p : Place) (e : Extension) → Whole g view p e → extended g p e ≡ laidBy g view p e
 unfolding extended laidBy
-extended-clear g view v e whole =
-    let d = directionOf (e .toward) in
-    rw (beyond-clear g view d (e .leaving) v (whole .leaving), beyond-clear g view (opposite d) (e .starting) (firstOf g d (e .length) v) (whole .starting)) refl
+extended-clear g view p e whole =
+    let d = headingOf (p .segment) in
+    let first = firstOf g d (stepsOf (p .segment)) (p .vertex) in
+    rw (beyond-clear g view d (e .leaving) (p .vertex) (whole .leaving), beyond-clear g view (opposite d) (e .starting) first (whole .starting)) refl

@@ -14,10 +14,10 @@ use lib.ListN.{length, getD, set, drop}
 use lib.Dec.{eqb}
 use Rattle.job.specs.Grid.{Grid, vertices}
 use Rattle.rules.specs.Tracks.{Entered, outside, at, entered}
-use Rattle.rules.specs.Segments.{Direction, opposite}
+use Rattle.rules.specs.Segments.{Direction, opposite, Place}
 use Rattle.rules.specs.Overheads.{toward, firstOf}
 use Rattle.rules.specs.Maps.{netCode}
-use Rattle.rules.specs.Structs.{directionOf}
+use Rattle.rules.specs.Structs.{headingOf, stepsOf}
 use Rattle.rules.specs.declared.overhead.Extension.{Extension}
 
 -- the code of a vertex once net n, counted from 1, is laid on it
@@ -39,11 +39,11 @@ unfoldable pub beyond : Grid → Direction → (n v : ℕ) → List ℕ
 beyond g d zero v = []
 beyond g d (suc n) v = fromEntered (beyond g d n) (entered g v (toward d))
 
--- the vertices of an extension beyond the two ends of a segment whose last vertex is v
-unfoldable pub extended : Grid → (v : ℕ) → Extension → List ℕ
-extended g v e =
-    let d = directionOf (e .toward) in
-    beyond g d (e .leaving) v ++ beyond g (opposite d) (e .starting) (firstOf g d (e .length) v)
+-- the vertices of an extension at a place, beyond the two ends of its segment
+unfoldable pub extended : Grid → Place → Extension → List ℕ
+extended g p e =
+    let d = headingOf (p .segment) in
+    beyond g d (e .leaving) (p .vertex) ++ beyond g (opposite d) (e .starting) (firstOf g d (stepsOf (p .segment)) (p .vertex))
 
 -- each vertex's code is that of the metal on it
 unfoldable pub Codes : Grid → (metal : List (List ℕ)) → (codes : List ℕ) → Type 0

@@ -6,13 +6,16 @@ ghost use lib.ListN.{length, getD, set};
 ghost use Rattle.job.specs.Grid.{vertices};
 ghost use Rattle.job.specs.Structs.{Sized, gridOf};
 ghost use Rattle.job.specs.declared.grid.Grid.{Grid as GridStruct};
-ghost use Rattle.rules.specs.Structs.{directionOf, EndOn};
+ghost use Rattle.rules.specs.Structs.{directionOf, placeOf, EndOn};
 ghost use Rattle.metal.specs.Codes.{laidCode, layAll, beyond, extended, withObstacles};
 use bits::part::least;
 use job::grid::Grid;
 use rules::end::End;
 use rules::end::end_on;
 use rules::overhead::Extension;
+use rules::segment::heading_of;
+use rules::segment::steps_of;
+use rules::step::Place;
 use rules::track::next_toward;
 use rules::track::track_of;
 use rules::track::vertex_by;
@@ -50,16 +53,18 @@ fn lay_run(map: &mut [u16], stride: usize, end: End, count: usize, net: u16)
     }
 }
 
-// Lays a net on the vertices of an extension of a segment whose last vertex is v, at its two ends.
-pub fn lay_extension(map: &mut [u16], grid: Grid, v: usize, extension: Extension, net: u16)
-    requires { ⌜ (Sized grid) × (v < vertices (gridOf grid)) × (vertices (gridOf grid) ≤ length (now map)) ⌝ }
-    ensures { λ _. ⌜ now (map .exit) ≡ layAll net (extended (gridOf grid) v extension) (now (map .entry)) ⌝ }
+// Lays a net on the vertices of an extension at a place, beyond the two ends of its segment.
+pub fn lay_extension(map: &mut [u16], grid: Grid, place: Place, extension: Extension, net: u16)
+    requires { ⌜ (Sized grid) × (place .vertex < vertices (gridOf grid)) × (vertices (gridOf grid) ≤ length (now map)) ⌝ }
+    ensures { λ _. ⌜ now (map .exit) ≡ layAll net (extended (gridOf grid) (placeOf place) extension) (now (map .entry)) ⌝ }
 {
-    let track = track_of(grid, vertex_by(grid, v));
-    let toward = extension.toward;
-    let leaving = end_on(track, v, toward, extension.length, 0);
+    let segment = place.segment;
+    let toward = heading_of(segment);
+    let steps = steps_of(segment);
+    let track = track_of(grid, vertex_by(grid, place.vertex));
+    let leaving = end_on(track, place.vertex, toward, steps, 0);
     lay_run(map, track.stride, leaving, extension.leaving, net);
-    let starting = end_on(track, v, toward, extension.length, 1);
+    let starting = end_on(track, place.vertex, toward, steps, 1);
     lay_run(map, track.stride, starting, extension.starting, net);
 }
 

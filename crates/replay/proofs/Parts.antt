@@ -182,16 +182,16 @@ place-short {t} p here = by (p .segment) (here .place .segment)
 
 -- a move that the code makes from a good place enters a vertex of the array
 pub made-below : {t : TechStruct} (p : PlaceStruct) (view : View) (number : ℕ) {r : SteppedEnum} {m : MadeStruct} → AtPlace t p
-    → IsStepped (gridOf (t .grid)) view (p .vertex) r (step (techBy t) view (placeOf p) number) → r ≡ Legal m → m .next .vertex < 16384
+    → IsStepped (gridOf (t .grid)) view (placeOf p) r (step (techBy t) view (placeOf p) number) → r ≡ Legal m → m .next .vertex < 16384
 unfolding steppedBy madeBy techBy
 made-below {t} p view number here is told =
     let made = step-lands view (placeOf p) number (here .tech .good) (here .place) (sym (rw told at (is .same))) in
     omega (arith, made .place .vertex, here .tech .sized .vertices)
 
 module _ (bits : List ℕ) (t : Tech) (view : View) (spots : List ℕ) (last : Bool) (at : ℕ) (p : Place) (w : whole bits at 2 ≡ true)
-    {number : ℕ} (numbered : number ≡ field bits at 2) {r : SteppedEnum} (is : IsStepped (t .grid) view (p .vertex) r (step t view p number)) where
+    {number : ℕ} (numbered : number ≡ field bits at 2) {r : SteppedEnum} (is : IsStepped (t .grid) view p r (step t view p number)) where
   abbrev Judges : Judged → Type 0
-  Judges j = IsJudged (t .grid) view (p .vertex) j (judgedMove bits t view spots last at p)
+  Judges j = IsJudged (t .grid) view p j (judgedMove bits t view spots last at p)
 
   -- a move that is not legal
   pub judged-illegal : r ≡ Illegal → Judges (Judge.Refused 17 at)
@@ -201,7 +201,7 @@ module _ (bits : List ℕ) (t : Tech) (view : View) (spots : List ℕ) (last : B
 
   module _ {m : MadeStruct} (told : r ≡ Legal m) where
     -- the definition's move
-    legal-made : step t view p (field bits at 2) ≡ legal (madeBy (t .grid) view (p .vertex) m)
+    legal-made : step t view p (field bits at 2) ≡ legal (madeBy (t .grid) view p m)
     unfolding steppedBy
     legal-made = ap (step t view p) (sym numbered) ∙ sym (rw told at (is .same))
 

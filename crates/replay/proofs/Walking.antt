@@ -66,7 +66,7 @@ module _ (tech : TechStruct) (view : View) (B : List ℕ) (net count from start 
     -- the move is judged as the definition's
     abbrev pub Judges : Judged → Bool → Type 0
     Judges r last =
-        IsJudged (gridOf (tech .grid)) view (walk .place .vertex) r (judgedMove B (techBy tech) view spots last at (placeOf (walk .place)))
+        IsJudged (gridOf (tech .grid)) view (placeOf (walk .place)) r (judgedMove B (techBy tech) view spots last at (placeOf (walk .place)))
 
     -- the whole is this move, and the rest
     one-more : Whole-moves ≡ andRead (record { spots = spots; codes = codes }) (judgedMove B (techBy tech) view spots (eqb left 1) at (placeOf (walk .place)))
@@ -101,7 +101,7 @@ module _ (tech : TechStruct) (view : View) (B : List ℕ) (net count from start 
     module _ (last : Bool) {r : Judged} (m : MadeStruct) (judged : Judges r last) (told : r ≡ Judge.Good m) where
       -- the definition's move
       abbrev made : Made
-      made = madeBy (gridOf (tech .grid)) view (walk .place .vertex) m
+      made = madeBy (gridOf (tech .grid)) view (placeOf (walk .place)) m
 
       -- it is judged good
       is-good : judgedMove B (techBy tech) view spots last at (placeOf (walk .place)) ≡ good made
@@ -113,7 +113,7 @@ module _ (tech : TechStruct) (view : View) (B : List ℕ) (net count from start 
       is-step = judged-step B (techBy tech) view spots last at (placeOf (walk .place)) is-good
 
       -- its extension is whole
-      is-whole : WholeMade (gridOf (tech .grid)) view (walk .place .vertex) m
+      is-whole : WholeMade (gridOf (tech .grid)) view (placeOf (walk .place)) m
       unfolding WholeJudged
       is-whole = rw told at (judged .whole)
 
@@ -123,7 +123,7 @@ module _ (tech : TechStruct) (view : View) (B : List ℕ) (net count from start 
 
       -- after the move
       pub walking-on : TechFits tech → last ≡ eqb left 1 → {more after : List ℕ} {onward : Walk} → more ≡ set spots (m .next .vertex) 1
-          → after ≡ layAll net (extended (gridOf (tech .grid)) (walk .place .vertex) (m .extension) ++ (m .next .vertex ∷ [])) codes
+          → after ≡ layAll net (extended (gridOf (tech .grid)) (placeOf (walk .place)) (m .extension) ++ (m .next .vertex ∷ [])) codes
           → onward ≡ walkOn walk m → Walking more after onward (at + 2) (left - 1)
       unfolding andRead
       walking-on fits isLast {more} {after} {onward} put laid walked =

@@ -12,6 +12,7 @@ use Rattle.plan.specs.Reading.{Progress}
 use Rattle.metal.specs.Codes.{Codes, withObstacles}
 use Rattle.job.specs.Slices.{zeroed}
 use Rattle.rules.specs.Views.{View}
+use Rattle.rules.specs.Segments.{Place}
 use Rattle.rules.specs.Places.{GoodPlace}
 use Rattle.rules.specs.Steps.{Made}
 use Rattle.rules.specs.Structs.{WholeMade, TechFits, techBy, placeOf, madeBy}
@@ -40,17 +41,17 @@ pub record AtPlace (t : TechStruct) (p : PlaceStruct) : Type 0 where
   pub tech : TechFits t
   pub place : GoodPlace (techBy t) (placeOf p)
 
-unfoldable pub judgedOf : Grid → View → (v : ℕ) → Judged → Read Made
-judgedOf g view v (Judge.Refused n p) = refused n p
-judgedOf g view v (Judge.Good m) = good (madeBy g view v m)
+unfoldable pub judgedOf : Grid → View → Place → Judged → Read Made
+judgedOf g view p (Judge.Refused n q) = refused n q
+judgedOf g view p (Judge.Good m) = good (madeBy g view p m)
 
-unfoldable pub WholeJudged : Grid → View → (v : ℕ) → Judged → Type 0
-WholeJudged g view v (Judge.Refused n p) = Unit
-WholeJudged g view v (Judge.Good m) = WholeMade g view v m
+unfoldable pub WholeJudged : Grid → View → Place → Judged → Type 0
+WholeJudged g view p (Judge.Refused n q) = Unit
+WholeJudged g view p (Judge.Good m) = WholeMade g view p m
 
-pub record IsJudged (g : Grid) (view : View) (v : ℕ) (r : Judged) (x : Read Made) : Type 0 where
-  pub same : judgedOf g view v r ≡ x
-  pub whole : WholeJudged g view v r
+pub record IsJudged (g : Grid) (view : View) (p : Place) (r : Judged) (x : Read Made) : Type 0 where
+  pub same : judgedOf g view p r ≡ x
+  pub whole : WholeJudged g view p r
 
 -- ---- a start, and a cost
 

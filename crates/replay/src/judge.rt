@@ -32,7 +32,7 @@ pub fn judge_move(
 ) -> Judged
     requires { ⌜ (AtPlace tech place) × (Priced (techBy tech) (now prices)) × (at < 2 ^ 40) ⌝ }
     ensures { λ r. ⌜ (let view = seenBy tech (now (seen .entry)) in
-        IsJudged (gridOf (tech .grid)) view (place .vertex) r
+        IsJudged (gridOf (tech .grid)) view (placeOf place) r
         (judgedMove (bitsOf (now (plan .entry))) (techBy tech) view (now (spots .entry)) last at (placeOf place))) ⌝ }
 {
     let cursor = Cursor { at };

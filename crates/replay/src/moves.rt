@@ -55,7 +55,7 @@ pub fn read_moves(
         let judged = judge_move(tech, prices, seen, spots, plan, left == 1, at, place);
         match judged {
             Judged::Good(made) => {
-                enter_move(map, spots, tech.grid, place.vertex, made, net);
+                enter_move(map, spots, tech.grid, place, made, net);
                 walk = walk_on(walk, made);
             }
             Judged::Refused(refusal, bit) => {

@@ -3,7 +3,7 @@
 --     EndRead, end-read        what the code has read of an end
 --     reached                          how many clear vertices lie beyond the ends so far
 --     leaving-, starting-, ends-count  beyond the leaving end, the starting end and both
---     Counted, counted-begun, -on, -past, -within, -done  so many ends are counted
+--     Counted, counted-begun, -on, -within, -done  so many ends are counted
 --     run-whole                a clear run is as long as it is
 use Prim.Native.Nat.{ℕ, zero, suc, _+_, _-_, _*_, _≤_, _<_, min}
 use mathlib.Core.Path.{_≡_, refl, sym, ap, _∙_}
@@ -154,15 +154,6 @@ module _ (g : Grid) (view : View) (d : Direction) (missing n v : ℕ) where
         before = rw (next, last) (so-far .all);
         all = rw (next, ← so-far .all, ← end .toward, ← end .vertex, is) refl;
       }
-
-  -- where none is missing any more, an end adds none
-  pub counted-past : {which earlier laid : ℕ} → which < 2 → Counted which earlier laid → laid ≡ missing → Counted (which + 1) laid laid
-  unfolding reached clearRun
-  counted-past {which} h so-far full =
-      let next : which + 1 ≡ suc which = omega arith in
-      let last : suc which - 1 ≡ which = omega arith in
-      let none : missing - reached which ≡ 0 = omega (arith, so-far .all, full) in
-      record { within = omega (arith, h); before = rw (next, last) (so-far .all); all = rw (next, none) (omega (arith, so-far .all)) }
 
   module _ {which earlier laid : ℕ} (so-far : Counted which earlier laid) where
     -- never more than are missing

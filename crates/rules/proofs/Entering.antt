@@ -105,8 +105,8 @@ module _ (t : Tech) (view : View) (p : Place) (m : ℕ) where
     priced-via via = priced-leaving (via-leaves t view p (kindOf m) w enter via)
 
 -- what a via owes, from the code's form
-pub owed-told : (t : Tech) (view : View) (v : ℕ) {line : LayerStruct} (r : OverheadEnum) {o : Overhead} → line ≡ layerStruct (lineOf t v)
-    → IsOverhead (lineOf t v .wire) (lineOf t v .area) (t .grid) view v r o → overheadCost line r ≡ overheadPrice o
+pub owed-told : (t : Tech) (view : View) (v : ℕ) {p : Place} {line : LayerStruct} (r : OverheadEnum) {o : Overhead} → line ≡ layerStruct (lineOf t v)
+    → IsOverhead (lineOf t v .wire) (lineOf t v .area) (t .grid) view p r o → overheadCost line r ≡ overheadPrice o
 unfolding overheadCost overheadPrice overheadBy
 owed-told t view v Nothing is told = rw (← told .same) refl
 owed-told t view v (Lengthened n e) is told = rw (← told .same, is) refl

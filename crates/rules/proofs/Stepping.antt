@@ -28,9 +28,9 @@ use Rattle.rules.specs.declared.step.Stepped.the-variants.{Illegal, Lega
 -- ---- a step along the track
 
 -- no vertex is clear throughout
-none-whole : (g : Grid) (view : View) (v : ℕ) → Whole g view v noExtension
+none-whole : (g : Grid) (view : View) (p : Place) → Whole g view p noExtension
 unfolding noExtension clearRun
-none-whole g view v = record { leaving = refl; starting = refl }
+none-whole g view p = record { leaving = refl; starting = refl }
 
 module _ (least : ℕ) (d : Direction) (s : Segment) (w enter : ℕ) where
   -- against the one before it
@@ -48,13 +48,13 @@ module _ (least : ℕ) (d : Direction) (s : Segment) (w enter : ℕ) where
 
 -- ---- a via move
 
-module _ (g : Grid) (view : View) (v w enter : ℕ) (o : Overhead) (line : LayerStruct) where
+module _ (g : Grid) (view : View) (p : Place) (w enter : ℕ) (o : Overhead) (line : LayerStruct) where
   -- the code's overhead, for a layer line
   abbrev Owes : OverheadEnum → Type 0
-  Owes r = IsOverhead (line .wire) (line .area) g view v r o
+  Owes r = IsOverhead (line .wire) (line .area) g view p r o
 
   abbrev Leaves : SteppedEnum → Type 0
-  Leaves r = IsStepped g view v r (leaving w enter o)
+  Leaves r = IsStepped g view p r (leaving w enter o)
 
   -- that owes nothing
   pub owed-nothing : Owes Nothing → {over : ℕ} {none : ExtensionStruct} → fin over ≡ overheadCost line Nothing → none ≡ noExtension
@@ -62,7 +62,7 @@ module _ (g : Grid) (view : View) (v w enter : ℕ) (o : Overhead) (line : Layer
   unfolding leaving overheadBy overheadCost byVia steppedBy madeBy WholeStep noExtension laidBy clearRun segmentOf
   owed-nothing owes {over} costs n =
       let price : over ≡ 0 = same-fin refl costs in
-      rw (n, price) (record { same = rw (← owes .same) refl; whole = record { few = omega arith; whole = none-whole g view v } })
+      rw (n, price) (record { same = rw (← owes .same) refl; whole = record { few = omega arith; whole = none-whole g view p } })
 
   -- that lengthens
   pub owed-lengthened : {n : ℕ} {e : ExtensionStruct} → Owes (Lengthened n e) → {over : ℕ} → fin over ≡ overheadCost line (Lengthened n e)
@@ -78,7 +78,7 @@ module _ (g : Grid) (view : View) (v w enter : ℕ) (o : Overhead) (line : Layer
   unfolding leaving overheadBy overheadCost byVia steppedBy madeBy WholeStep noExtension laidBy clearRun segmentOf
   owed-penalised owes {over} costs n =
       let price : over ≡ line .area = same-fin refl costs in
-      rw (n, price) (record { same = rw (← owes .same) refl; whole = record { few = omega arith; whole = none-whole g view v } })
+      rw (n, price) (record { same = rw (← owes .same) refl; whole = record { few = omega arith; whole = none-whole g view p } })
 
   -- that is forbidden
   pub owed-forbidden : Owes Forbidden → Leaves Illegal
@@ -97,7 +97,7 @@ module _ (g : Grid) (view : View) (v w enter : ℕ) (o : Overhead) (line : Layer
 
 module _ (t : Tech) (view : View) (p : Place) (m : ℕ) where
   abbrev Steps : SteppedEnum → Type 0
-  Steps r = IsStepped (t .grid) view (p .vertex) r (step t view p m)
+  Steps r = IsStepped (t .grid) view p r (step t view p m)
 
   -- a move that may enter nothing
   pub step-shut : entryOf t view (p .vertex) m ≡ Shut → Steps Illegal
@@ -106,6 +106,6 @@ module _ (t : Tech) (view : View) (p : Place) (m : ℕ) where
 
   -- else what its kind asks of the segment
   pub step-open : {w enter : ℕ} {r : SteppedEnum} → entryOf t view (p .vertex) m ≡ Open w enter
-      → IsStepped (t .grid) view (p .vertex) r (bySegment t view p (kindOf m) w enter) → Steps r
+      → IsStepped (t .grid) view p r (bySegment t view p (kindOf m) w enter) → Steps r
   unfolding stepOf
   step-open e by = record { same = by .same ∙ sym (step-entry t view p m ∙ ap (stepOf t view p m) e); whole = by .whole }

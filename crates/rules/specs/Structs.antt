@@ -129,6 +129,20 @@ segmentOf (Running d n) = running (directionOf d) n
 segmentOf Paid = paid
 segmentOf (PaidToward d) = paidToward (directionOf d)
 
+-- where a segment that owes is lengthened first: in its direction, a fresh one high
+unfoldable pub headingOf : Segment → Direction
+headingOf fresh = high
+headingOf (running d n) = d
+headingOf paid = high
+headingOf (paidToward d) = d
+
+-- how many steps its first vertex lies back
+unfoldable pub stepsOf : Segment → ℕ
+stepsOf fresh = 0
+stepsOf (running d n) = n
+stepsOf paid = 0
+stepsOf (paidToward d) = 0
+
 unfoldable pub grownOf : GrownEnum → Grown
 grownOf Grow.Back = back
 grownOf (Grow.To s) = grown (segmentOf s)
@@ -174,27 +188,28 @@ costOf (Price n) = fin n
 
 -- ---- overhead
 
--- the vertices of an extension: as many of the clear runs beyond the two ends of a segment whose last vertex is v
-unfoldable pub laidBy : Grid → View → (v : ℕ) → ExtensionStruct → List ℕ
-laidBy g view v e =
-    let d = directionOf (e .toward) in
-    clearRun g view d (e .leaving) v ++ clearRun g view (opposite d) (e .starting) (firstOf g d (e .length) v)
+-- the vertices of an extension at a place: as many of the clear runs beyond the two ends of its segment
+unfoldable pub laidBy : Grid → View → Place → ExtensionStruct → List ℕ
+laidBy g view p e =
+    let d = headingOf (p .segment) in
+    clearRun g view d (e .leaving) (p .vertex) ++ clearRun g view (opposite d) (e .starting) (firstOf g d (stepsOf (p .segment)) (p .vertex))
 
 -- they are all clear
-pub record Whole (g : Grid) (view : View) (v : ℕ) (e : ExtensionStruct) : Type 0 where
-  pub leaving : length (clearRun g view (directionOf (e .toward)) (e .leaving) v) ≡ e .leaving
-  pub starting : length (clearRun g view (opposite (directionOf (e .toward))) (e .starting) (firstOf g (directionOf (e .toward)) (e .length) v)) ≡ e .starting
+pub record Whole (g : Grid) (view : View) (p : Place) (e : ExtensionStruct) : Type 0 where
+  pub leaving : length (clearRun g view (headingOf (p .segment)) (e .leaving) (p .vertex)) ≡ e .leaving
+  pub starting : length (clearRun g view (opposite (headingOf (p .segment))) (e .starting)
+      (firstOf g (headingOf (p .segment)) (stepsOf (p .segment)) (p .vertex))) ≡ e .starting
 
 -- no vertex
 unfoldable pub noExtension : ExtensionStruct
-noExtension = record { toward = High; length = 0; leaving = 0; starting = 0 }
+noExtension = record { leaving = 0; starting = 0 }
 
 -- by the wire price and the area penalty of the layer that is left
-unfoldable pub overheadBy : (wire area : ℕ) → Grid → View → (v : ℕ) → OverheadEnum → Overhead
-overheadBy wire area g view v Nothing = owes 0 [] 0 0
-overheadBy wire area g view v (Lengthened n e) = owes (wire * n) (laidBy g view v e) n 0
-overheadBy wire area g view v Penalised = owes area [] 0 1
-overheadBy wire area g view v Forbidden = forbidden
+unfoldable pub overheadBy : (wire area : ℕ) → Grid → View → Place → OverheadEnum → Overhead
+overheadBy wire area g view p Nothing = owes 0 [] 0 0
+overheadBy wire area g view p (Lengthened n e) = owes (wire * n) (laidBy g view p e) n 0
+overheadBy wire area g view p Penalised = owes area [] 0 1
+overheadBy wire area g view p Forbidden = forbidden
 
 -- fewer than 16 steps are missing
 unfoldable pub FewMissing : OverheadEnum → Type 0
@@ -203,20 +218,20 @@ FewMissing (Lengthened n e) = n < 16
 FewMissing Penalised = Unit
 FewMissing Forbidden = Unit
 
-unfoldable pub WholeOverhead : Grid → View → (v : ℕ) → OverheadEnum → Type 0
-WholeOverhead g view v Nothing = Unit
-WholeOverhead g view v (Lengthened n e) = Whole g view v e
-WholeOverhead g view v Penalised = Unit
-WholeOverhead g view v Forbidden = Unit
+unfoldable pub WholeOverhead : Grid → View → Place → OverheadEnum → Type 0
+WholeOverhead g view p Nothing = Unit
+WholeOverhead g view p (Lengthened n e) = Whole g view p e
+WholeOverhead g view p Penalised = Unit
+WholeOverhead g view p Forbidden = Unit
 
-pub record IsOverhead (wire area : ℕ) (g : Grid) (view : View) (v : ℕ) (r : OverheadEnum) (o : Overhead) : Type 0 where
-  pub same : overheadBy wire area g view v r ≡ o
+pub record IsOverhead (wire area : ℕ) (g : Grid) (view : View) (p : Place) (r : OverheadEnum) (o : Overhead) : Type 0 where
+  pub same : overheadBy wire area g view p r ≡ o
   pub few : FewMissing r
-  pub whole : WholeOverhead g view v r
+  pub whole : WholeOverhead g view p r
 
 -- one that lays nothing is the same wherever it is asked
 abbrev pub IsOverheadAnywhere : (area : ℕ) → OverheadEnum → Overhead → Type 0
-IsOverheadAnywhere area r o = (wire : ℕ) (g : Grid) (view : View) (v : ℕ) → IsOverhead wire area g view v r o
+IsOverheadAnywhere area r o = (wire : ℕ) (g : Grid) (view : View) (p : Place) → IsOverhead wire area g view p r o
 
 -- what an overhead costs, by the layer line of the vertex that is left
 unfoldable pub overheadCost : LayerStruct → OverheadEnum → Cost
@@ -255,37 +270,37 @@ entryAt t view v m (at w) = elim (view .blocked w) [ true ↦ Shut | false ↦ e
 unfoldable pub entryOf : Tech → View → (v move : ℕ) → Entry
 entryOf t view v m = entryAt t view v m (entered (t .grid) v m)
 
-unfoldable pub madeBy : Grid → View → (v : ℕ) → MadeStruct → Made
-madeBy g view v m =
+unfoldable pub madeBy : Grid → View → Place → MadeStruct → Made
+madeBy g view p m =
     record {
       next = placeOf (m .next);
       enter = m .enter;
       over = m .over;
-      laid = laidBy g view v (m .extension);
+      laid = laidBy g view p (m .extension);
       added = m .added;
       penalties = m .penalties;
     }
 
-unfoldable pub steppedBy : Grid → View → (v : ℕ) → SteppedEnum → Stepped
-steppedBy g view v Illegal = illegal
-steppedBy g view v (Legal m) = legal (madeBy g view v m)
+unfoldable pub steppedBy : Grid → View → Place → SteppedEnum → Stepped
+steppedBy g view p Illegal = illegal
+steppedBy g view p (Legal m) = legal (madeBy g view p m)
 
 -- the vertices of a move's extension are all clear, and few steps were missing
-pub record WholeMade (g : Grid) (view : View) (v : ℕ) (m : MadeStruct) : Type 0 where
+pub record WholeMade (g : Grid) (view : View) (p : Place) (m : MadeStruct) : Type 0 where
   pub few : m .added < 16
-  pub whole : Whole g view v (m .extension)
+  pub whole : Whole g view p (m .extension)
 
-unfoldable pub WholeStep : Grid → View → (v : ℕ) → SteppedEnum → Type 0
-WholeStep g view v Illegal = Unit
-WholeStep g view v (Legal m) = WholeMade g view v m
+unfoldable pub WholeStep : Grid → View → Place → SteppedEnum → Type 0
+WholeStep g view p Illegal = Unit
+WholeStep g view p (Legal m) = WholeMade g view p m
 
-pub record IsStepped (g : Grid) (view : View) (v : ℕ) (r : SteppedEnum) (s : Stepped) : Type 0 where
-  pub same : steppedBy g view v r ≡ s
-  pub whole : WholeStep g view v r
+pub record IsStepped (g : Grid) (view : View) (p : Place) (r : SteppedEnum) (s : Stepped) : Type 0 where
+  pub same : steppedBy g view p r ≡ s
+  pub whole : WholeStep g view p r
 
 -- one that lays nothing is the same wherever it is asked
 abbrev pub IsSteppedAnywhere : SteppedEnum → Stepped → Type 0
-IsSteppedAnywhere r s = (g : Grid) (view : View) (v : ℕ) → IsStepped g view v r s
+IsSteppedAnywhere r s = (g : Grid) (view : View) (p : Place) → IsStepped g view p r s
 
 -- a via move, with what it owes
 unfoldable pub byVia : (into enter over : ℕ) → ExtensionStruct → (added penalties : ℕ) → SteppedEnum

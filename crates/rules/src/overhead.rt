@@ -5,9 +5,10 @@ ghost use Rattle.job.specs.Grid.{vertices};
 ghost use Rattle.job.specs.Structs.{Sized, gridOf, vertexStruct};
 ghost use Rattle.rules.specs.Tracks.{vertexBy};
 ghost use Rattle.rules.specs.Prices.{lineOf};
+ghost use Rattle.rules.specs.Segments.{Segment as SegmentRecord};
 ghost use Rattle.rules.specs.Overheads.{otherwise, tooShort, overheadOf};
 ghost use Rattle.rules.specs.Seen.{viewBy};
-ghost use Rattle.rules.specs.Structs.{directionOf, segmentOf, lineRecord, techBy, seenBy, costOf, noExtension, FewMissing, IsOverhead, IsOverheadAnywhere, overheadCost, Here};
+ghost use Rattle.rules.specs.Structs.{directionOf, segmentOf, headingOf, stepsOf, lineRecord, techBy, seenBy, costOf, noExtension, FewMissing, IsOverhead, IsOverheadAnywhere, overheadCost, Here};
 ghost use Rattle.rules.specs.declared.price.Tech.{Tech as TechStruct};
 use crate::end::end_on;
 use crate::price::line_at;
@@ -22,11 +23,9 @@ use job::grid::Vertex;
 use job::groups::Layer;
 use job::penalty::Penalty;
 
-// So many vertices become metal beyond the vertex that is left, in its segment's direction, and so many beyond
-// the segment's first vertex, which lies its length behind, against it.
+// So many vertices become metal beyond the last vertex of the segment that is left, and so many beyond its
+// first.
 pub struct Extension {
-    pub toward: Direction,
-    pub length: usize,
     pub leaving: usize,
     pub starting: usize,
 }
@@ -35,8 +34,6 @@ pub fn no_extension() -> Extension
     ensures { λ r. ⌜ r ≡ noExtension ⌝ }
 {
     Extension {
-        toward: Direction::High,
-        length: 0,
         leaving: 0,
         starting: 0,
     }
@@ -80,8 +77,10 @@ fn too_short(
     length: usize,
 ) -> Overhead
     requires { ⌜ (Sized grid) × (v < vertices (gridOf grid)) × (from ≡ vertexStruct (vertexBy (gridOf grid) v)) × (line .least < 16) ⌝ }
-    ensures { λ r. ⌜ (let view = viewBy (gridOf grid) (now (seen .entry)) in
-        IsOverhead (line .wire) (line .area) (gridOf grid) view v r (tooShort (gridOf grid) (lineRecord line) view v (directionOf toward) length)) ⌝ }
+    ensures { λ r. ⌜ ((s : SegmentRecord) → headingOf s ≡ directionOf toward → stepsOf s ≡ length
+        → (let view = viewBy (gridOf grid) (now (seen .entry)) in
+        IsOverhead (line .wire) (line .area) (gridOf grid) view (record { vertex = v; segment = s }) r
+        (tooShort (gridOf grid) (lineRecord line) view v (directionOf toward) length))) ⌝ }
 {
     let missing = missing_of(line.least, length);
     let track = track_of(grid, from);
@@ -89,9 +88,6 @@ fn too_short(
     let mut leaving = 0;
     'ends: for which in 0..2 {
         leaving = laid;
-        if laid == missing {
-            continue 'ends;
-        }
         let end = end_on(track, v, toward, length, which);
         let away = end.toward;
         let mut last = end.vertex;
@@ -109,8 +105,6 @@ fn too_short(
     Overhead::Lengthened(
         missing,
         Extension {
-            toward,
-            length,
             leaving,
             starting: laid - leaving,
         },
@@ -130,7 +124,8 @@ pub fn overhead_of(
     ensures { λ r. ⌜ ((tech : TechStruct) → Here tech (now (prices .entry)) v from → tech .grid ≡ grid
         → (let view = seenBy tech (now (seen .entry)) in
         let line = lineOf (techBy tech) v in
-        IsOverhead (line .wire) (line .area) (gridOf (tech .grid)) view v r (overheadOf (techBy tech) view v (segmentOf segment)))) ⌝ }
+        IsOverhead (line .wire) (line .area) (gridOf (tech .grid)) view (record { vertex = v; segment = segmentOf segment }) r
+        (overheadOf (techBy tech) view v (segmentOf segment)))) ⌝ }
 {
     let line = line_at(prices, from.layer);
     match segment {

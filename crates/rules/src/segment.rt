@@ -2,7 +2,7 @@
 ghost use mathlib.Core.Path.{_≡_};
 ghost use Rattle.rules.specs.Segments.{ofLength, against, notAgainst, grow};
 ghost use Rattle.rules.specs.Overheads.{toward};
-ghost use Rattle.rules.specs.Structs.{Short, directionOf, oppositeTo, segmentOf, grownOf};
+ghost use Rattle.rules.specs.Structs.{Short, directionOf, oppositeTo, segmentOf, headingOf, stepsOf, grownOf};
 
 pub enum Direction {
     Low,
@@ -51,6 +51,30 @@ pub fn of_length(least: usize, direction: Direction, length: usize) -> Segment
         Segment::PaidToward(direction)
     } else {
         Segment::Running(direction, length)
+    }
+}
+
+// Where a segment that owes is lengthened first: in its direction, a fresh one high.
+pub fn heading_of(segment: Segment) -> Direction
+    ensures { λ r. ⌜ directionOf r ≡ headingOf (segmentOf segment) ⌝ }
+{
+    match segment {
+        Segment::Fresh => Direction::High,
+        Segment::Running(toward, _length) => toward,
+        Segment::Paid => Direction::High,
+        Segment::PaidToward(toward) => toward,
+    }
+}
+
+// How many steps its first vertex lies back.
+pub fn steps_of(segment: Segment) -> usize
+    ensures { λ r. ⌜ r ≡ stepsOf (segmentOf segment) ⌝ }
+{
+    match segment {
+        Segment::Fresh => 0,
+        Segment::Running(_toward, length) => length,
+        Segment::Paid => 0,
+        Segment::PaidToward(_toward) => 0,
     }
 }
 

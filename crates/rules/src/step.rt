@@ -1,10 +1,10 @@
 // One move from a place.
 ghost use mathlib.Core.Path.{_≡_};
-ghost use Prim.Native.Nat.{ℕ, _<_};
+ghost use Prim.Native.Nat.{_<_};
 ghost use Rattle.job.specs.Grid.{Grid as GridRecord, vertices};
 ghost use Rattle.job.specs.Structs.{gridOf};
 ghost use Rattle.rules.specs.Views.{View};
-ghost use Rattle.rules.specs.Segments.{grow};
+ghost use Rattle.rules.specs.Segments.{Place as PlaceRecord, grow};
 ghost use Rattle.rules.specs.PriceLists.{Priced};
 ghost use Rattle.rules.specs.Overheads.{overheadOf, Overhead as Owed};
 ghost use Rattle.rules.specs.Steps.{stepping, leaving, bySegment, step};
@@ -140,8 +140,8 @@ fn by_via(
 // A via move out of a vertex with a layer line, by what it owes.
 fn leave_by(line: Layer, into: usize, enter: usize, overhead: Overhead) -> Stepped
     requires { ⌜ (line .wire < 1024) × (FewMissing overhead) ⌝ }
-    ensures { λ r. ⌜ ((g : GridRecord) (view : View) (v : ℕ) (owed : Owed) → IsOverhead (line .wire) (line .area) g view v overhead owed
-        → IsStepped g view v r (leaving into enter owed)) ⌝ }
+    ensures { λ r. ⌜ ((g : GridRecord) (view : View) (p : PlaceRecord) (owed : Owed) → IsOverhead (line .wire) (line .area) g view p overhead owed
+        → IsStepped g view p r (leaving into enter owed)) ⌝ }
 {
     let Penalty::Price(over) = overhead_price(line, overhead) else {
         return Stepped::Illegal;
@@ -169,7 +169,7 @@ fn leave_layer(
     requires { ⌜ ((tech : TechStruct) × Here tech (now prices) (place .vertex) from × (tech .grid ≡ grid)) ⌝ }
     ensures { λ r. ⌜ ((tech : TechStruct) → Here tech (now (prices .entry)) (place .vertex) from → tech .grid ≡ grid
         → (let view = seenBy tech (now (seen .entry)) in
-        IsStepped (gridOf (tech .grid)) view (place .vertex) r
+        IsStepped (gridOf (tech .grid)) view (placeOf place) r
         (leaving into enter (overheadOf (techBy tech) view (place .vertex) (segmentOf (place .segment)))))) ⌝ }
 {
     let segment = place.segment;
@@ -191,7 +191,7 @@ fn by_segment(
     requires { ⌜ ((tech : TechStruct) × Here tech (now prices) (place .vertex) from × (tech .grid ≡ grid)) × (Short (place .segment)) ⌝ }
     ensures { λ r. ⌜ ((tech : TechStruct) → Here tech (now (prices .entry)) (place .vertex) from → tech .grid ≡ grid
         → (let view = seenBy tech (now (seen .entry)) in
-        IsStepped (gridOf (tech .grid)) view (place .vertex) r (bySegment (techBy tech) view (placeOf place) (kindBy kind) into enter))) ⌝ }
+        IsStepped (gridOf (tech .grid)) view (placeOf place) r (bySegment (techBy tech) view (placeOf place) (kindBy kind) into enter))) ⌝ }
 {
     let Kind::Along(toward) = kind else {
         return leave_layer(grid, prices, seen, place, from, into, enter);
@@ -214,7 +214,7 @@ pub fn step_from(
     requires { ⌜ ((tech : TechStruct) × Here tech (now prices) (place .vertex) from × (tech .grid ≡ grid)) × (Short (place .segment)) ⌝ }
     ensures { λ r. ⌜ ((tech : TechStruct) → Here tech (now (prices .entry)) (place .vertex) from → tech .grid ≡ grid
         → (let view = seenBy tech (now (seen .entry)) in
-        IsStepped (gridOf (tech .grid)) view (place .vertex) r (step (techBy tech) view (placeOf place) number))) ⌝ }
+        IsStepped (gridOf (tech .grid)) view (placeOf place) r (step (techBy tech) view (placeOf place) number))) ⌝ }
 {
     let Entry::Open(into, enter) = entry_of(grid, prices, seen, place.vertex, from, number) else {
         return Stepped::Illegal;
@@ -242,7 +242,7 @@ pub fn step(
     requires { ⌜ ((tech : TechStruct) × TechFits tech × Priced (techBy tech) (now prices) × (tech .grid ≡ grid)) × (place .vertex < vertices (gridOf grid)) × (Short (place .segment)) ⌝ }
     ensures { λ r. ⌜ ((tech : TechStruct) → TechFits tech → Priced (techBy tech) (now (prices .entry)) → tech .grid ≡ grid
         → (let view = seenBy tech (now (seen .entry)) in
-        IsStepped (gridOf (tech .grid)) view (place .vertex) r (step (techBy tech) view (placeOf place) number))) ⌝ }
+        IsStepped (gridOf (tech .grid)) view (placeOf place) r (step (techBy tech) view (placeOf place) number))) ⌝ }
 {
     let from = vertex_by(grid, place.vertex);
     step_from(grid, prices, seen, place, from, number)

@@ -198,7 +198,7 @@ module _ {tech : TechStruct} {settled : Settled} (at-place : AtPlace tech settle
       pub good : GoodPlace (techBy tech) (placeOf (made .next))
       pub price : made .enter + made .over ≤ 197625
 
-    pub led : {r : SteppedEnum} {made : MadeStruct} → IsStepped (gridOf (tech .grid)) (seenBy tech seen) (settled .place .vertex) r does → r ≡ Legal made
+    pub led : {r : SteppedEnum} {made : MadeStruct} → IsStepped (gridOf (tech .grid)) (seenBy tech seen) (placeOf (settled .place)) r does → r ≡ Legal made
         → Led made
     unfolding steppedBy madeBy priced
     led {r} {made} stepped is =
@@ -210,7 +210,7 @@ module _ {tech : TechStruct} {settled : Settled} (at-place : AtPlace tech settle
         }
 
     -- one that is not legal is blocked
-    pub led-not : {r : SteppedEnum} → IsStepped (gridOf (tech .grid)) (seenBy tech seen) (settled .place .vertex) r does → r ≡ Illegal
+    pub led-not : {r : SteppedEnum} → IsStepped (gridOf (tech .grid)) (seenBy tech seen) (placeOf (settled .place)) r does → r ≡ Illegal
         → priced does ≡ blocked
     unfolding steppedBy priced
     led-not stepped is = rw (← stepped .same, is) refl

@@ -66,8 +66,8 @@ pub record MovesMade (tech : TechStruct) (n : ℕ) (walk : Walk) (gone : Gone) :
   pub penalties : walk .penalties ≤ n
 
 module _ (tech : TechStruct) (view : View) (p : PlaceStruct) (number : ℕ) (m : MadeStruct)
-    (is : step (techBy tech) view (placeOf p) number ≡ legal (madeBy (gridOf (tech .grid)) view (p .vertex) m))
-    (whole : WholeMade (gridOf (tech .grid)) view (p .vertex) m) where
+    (is : step (techBy tech) view (placeOf p) number ≡ legal (madeBy (gridOf (tech .grid)) view (placeOf p) m))
+    (whole : WholeMade (gridOf (tech .grid)) view (placeOf p) m) where
   -- it leads to a good place, and its numbers are small
   pub made-fits : TechFits tech → GoodPlace (techBy tech) (placeOf p) → MoveFits tech m
   unfolding madeBy priced
@@ -81,11 +81,11 @@ module _ (tech : TechStruct) (view : View) (p : PlaceStruct) (number : ℕ) (m :
 
   -- what the code leaves in the arrays is what the definition's move leaves
   pub made-entered : (net : ℕ) (spots codes : List ℕ) {more after : List ℕ} → more ≡ set spots (m .next .vertex) 1
-      → after ≡ layAll net (extended (gridOf (tech .grid)) (p .vertex) (m .extension) ++ (m .next .vertex ∷ [])) codes
-      → enterBy net (madeBy (gridOf (tech .grid)) view (p .vertex) m) (record { spots = spots; codes = codes }) ≡ record { spots = more; codes = after }
+      → after ≡ layAll net (extended (gridOf (tech .grid)) (placeOf p) (m .extension) ++ (m .next .vertex ∷ [])) codes
+      → enterBy net (madeBy (gridOf (tech .grid)) view (placeOf p) m) (record { spots = spots; codes = codes }) ≡ record { spots = more; codes = after }
   unfolding madeBy enterBy
   made-entered net spots codes {more} {after} put laid =
-      let lays = extended-clear (gridOf (tech .grid)) view (p .vertex) (m .extension) (whole .whole) in
+      let lays = extended-clear (gridOf (tech .grid)) view (placeOf p) (m .extension) (whole .whole) in
       let codes-after = sym (laid ∙ ap (λ (vs : List ℕ). layAll net (vs ++ (m .next .vertex ∷ [])) codes) lays) in
       λ i. record { spots = sym put i; codes = codes-after i }
 
@@ -103,7 +103,7 @@ made-none tech start on =
 
 -- of one more
 pub made-one : (tech : TechStruct) (view : View) {n : ℕ} {walk : Walk} {gone : Gone} (m : MadeStruct) → MovesMade tech n walk gone → MoveFits tech m
-    → MovesMade tech (suc n) (walkOn walk m) (goneOn gone (madeBy (gridOf (tech .grid)) view (walk .place .vertex) m))
+    → MovesMade tech (suc n) (walkOn walk m) (goneOn gone (madeBy (gridOf (tech .grid)) view (placeOf (walk .place)) m))
 unfolding madeBy goneOn walkOn
 made-one tech view {n} m so-far new =
     record {

@@ -7,6 +7,7 @@ ghost use lib.ListN.{length, set};
 ghost use Rattle.job.specs.Grid.{vertices};
 ghost use Rattle.job.specs.Structs.{Sized, gridOf};
 ghost use Rattle.metal.specs.Codes.{layAll, extended};
+ghost use Rattle.rules.specs.Structs.{placeOf};
 ghost use Rattle.walker.specs.Structs.{walkFrom, walkOn};
 use job::grid::Grid;
 use metal::codes::lay;
@@ -52,13 +53,13 @@ pub fn enter_move(
     map: &mut [u16],
     spots: &mut [u8; 16384],
     grid: Grid,
-    from: usize,
+    from: Place,
     made: Made,
     net: u16,
 )
-    requires { ⌜ (Sized grid) × (from < vertices (gridOf grid)) × (made .next .vertex < vertices (gridOf grid)) × (vertices (gridOf grid) ≤ length (now map)) ⌝ }
+    requires { ⌜ (Sized grid) × (from .vertex < vertices (gridOf grid)) × (made .next .vertex < vertices (gridOf grid)) × (vertices (gridOf grid) ≤ length (now map)) ⌝ }
     ensures map { λ _. ⌜ now (map .exit)
-        ≡ layAll net (extended (gridOf grid) from (made .extension) ++ (made .next .vertex ∷ [])) (now (map .entry)) ⌝ }
+        ≡ layAll net (extended (gridOf grid) (placeOf from) (made .extension) ++ (made .next .vertex ∷ [])) (now (map .entry)) ⌝ }
     ensures spots { λ _. ⌜ now (spots .exit) ≡ set (now (spots .entry)) (made .next .vertex) 1 ⌝ }
 {
     let extension = made.extension;

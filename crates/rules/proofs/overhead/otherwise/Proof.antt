@@ -42,12 +42,12 @@ enum-known-penalty c = search needs
 
 returns : tie.Need-returns
 unfolding overheadBy FewMissing WholeOverhead
-returns c wire g view v =
+returns c wire g view p =
     record { same = closed-forbids _ (sym (c .before .before .from-field .ensures) ∙ c .enum-told .given .1); few = tt; whole = tt }
 
 returns-2 : tie.Need-returns-2
 unfolding overheadBy FewMissing WholeOverhead
-returns-2 c wire g view v =
+returns-2 c wire g view p =
     record { same = priced-penalises _ (sym (c .before .before .before .from-field .ensures) ∙ c .before .penalty .given .1); few = tt; whole = tt }
 
 pub otherwise-spec : {M : Type 1} → statement M

@@ -8,8 +8,9 @@ use Rattle.job.specs.Structs.{layerStruct}
 use Rattle.job.specs.declared.groups.Layer.{Layer}
 use Rattle.job.specs.declared.grid.Vertex.{Vertex as VertexStruct}
 use Rattle.rules.specs.Prices.{lineOf}
+use Rattle.rules.specs.Segments.{fresh, running}
 use Rattle.rules.specs.Overheads.{overheadOf}
-use Rattle.rules.specs.Structs.{directionOf, segmentOf, techBy, overheadBy, FewMissing, WholeOverhead, Here}
+use Rattle.rules.specs.Structs.{directionOf, segmentOf, headingOf, stepsOf, techBy, overheadBy, FewMissing, WholeOverhead, Here}
 use Rattle.rules.specs.declared.price.Tech.{Tech as TechStruct}
 use Rattle.rules.proofs.Fitting.{layer-known}
 use Rattle.rules.proofs.Held.{line-fits}
@@ -49,16 +50,16 @@ enum-known-segment-2 : tie.Need-enum-known-segment-2
 enum-known-segment-2 c = search needs
 
 returns : tie.Need-returns
-unfolding segmentOf overheadOf directionOf techBy
+unfolding segmentOf overheadOf directionOf headingOf stepsOf techBy
 returns c tech here same =
     rw (c .before .enum-told .given .1)
-    (short-told (techBy tech) _ _ _ _ (c .before .before .before .line-at .ensures ∙ line-told here) (rw (← same) at (c .too-short .ensures)))
+    (short-told (techBy tech) _ _ _ _ (c .before .before .before .line-at .ensures ∙ line-told here) (rw (← same) at (c .too-short .ensures fresh refl refl)))
 
 returns-2 : tie.Need-returns-2
-unfolding segmentOf overheadOf techBy
+unfolding segmentOf overheadOf headingOf stepsOf techBy
 returns-2 c tech here same =
     rw (c .before .before .segment .given .1)
-    (short-told (techBy tech) _ _ _ _ (c .before .before .before .before .line-at .ensures ∙ line-told here) (rw (← same) at (c .too-short2 .ensures)))
+    (short-told (techBy tech) _ _ _ _ (c .before .before .before .before .line-at .ensures ∙ line-told here) (rw (← same) at (c .too-short2 .ensures (running _ _) refl refl)))
 
 returns-3 : tie.Need-returns-3
 unfolding segmentOf overheadOf overheadBy FewMissing WholeOverhead

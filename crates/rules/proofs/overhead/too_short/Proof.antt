@@ -18,7 +18,7 @@ use Rattle.rules.specs.declared.end.End.{End}
 use Rattle.rules.proofs.Fitting.{fits, TrackRead, track-read}
 use Rattle.rules.proofs.Held.{seen-clear}
 use Rattle.rules.proofs.Runs.{OnTrack, Counting, counting-begun, counting-next, counting-on, counting-unclear, counting-full}
-use Rattle.rules.proofs.Ends.{EndRead, end-read, Counted, counted-begun, counted-on, counted-past, counted-within, counted-done}
+use Rattle.rules.proofs.Ends.{EndRead, end-read, Counted, counted-begun, counted-on, counted-within, counted-done}
 use Rattle.rules.proofs.Owed.{short-pays, short-lays}
 use Rattle.rules.proofs.overhead.too_short.Statement.{statement}
 use Rattle.rules.proofs.overhead.too_short.Tie as tie
@@ -68,76 +68,61 @@ track-of-requires c κs =
 ends-holds : tie.Need-ends-holds Inv-loop μ-loop Inv-ends μ-ends
 ends-holds c g from on r = counted-begun _ _ _ _ _ _
 
-add-which : tie.Need-add-which Inv-loop μ-loop Inv-ends μ-ends
-add-which c = search needs
-
-ends-less : tie.Need-ends-less Inv-loop μ-loop Inv-ends μ-ends
-ends-less c = search needs
-
-ends-again : tie.Need-ends-again Inv-loop μ-loop Inv-ends μ-ends
-ends-again c g from on r = counted-past _ _ _ _ _ _ (c .before .ends-test .taken) (c .before .before .ends .inv g from on r) (c .if1 .taken)
-
 end-on-requires : tie.Need-end-on-requires Inv-loop μ-loop Inv-ends μ-ends
 end-on-requires c κs =
-    let pre = c .before .before .before .before .before .pre in
-    let on : OnGrid (c .before .before .before .before .before .args .grid) (c .before .before .before .before .before .args .v) = record { small = pre .0 .small; there = pre .1 } in
-    (c .before .before .before .before .before .args .grid, on, c .before .before .before .track-of .ensures ∙ ap (λ (x : VertexStruct). trackOf (gridOf (c .before .before .before .before .before .args .grid)) (vertexOf x)) (pre .2))
+    let pre = c .before .before .before .before .pre in
+    (c .before .before .before .before .args .grid, record { small = pre .0 .small; there = pre .1 }, c .before .before .track-of .ensures ∙ ap (λ (x : VertexStruct). trackOf (gridOf (c .before .before .before .before .args .grid)) (vertexOf x)) (pre .2))
 
 sub-least : tie.Need-sub-least Inv-loop μ-loop Inv-ends μ-ends
 sub-least c =
-    let pre = c .before .before .before .before .before .before .pre in
-    let so-far = c .before .before .before .ends .inv _ _ (pre .1) (reading pre (c .before .before .before .before .track-of .ensures)) in
+    let pre = c .before .before .before .before .before .pre in
+    let so-far = c .before .before .ends .inv _ _ (pre .1) (reading pre (c .before .before .before .track-of .ensures)) in
     omega (arith, counted-within _ _ _ _ _ _ so-far (pre .1))
 
 least-requires : tie.Need-least-requires Inv-loop μ-loop Inv-ends μ-ends
 least-requires c κs = search needs
 
 loop-holds : tie.Need-loop-holds Inv-loop μ-loop Inv-ends μ-ends
-loop-holds c = (
-  refl,
-  omega arith,
-  λ g from on r. let end = end-told _ _ _ (c .before .end-on .ensures) on r in counting-begun _ _ _ _ _ (end .on .onGrid) (end .on .step),
-)
+loop-holds c = (refl, omega arith, λ g from on r. let end = end-told _ _ _ (c .before .end-on .ensures) on r in counting-begun _ _ _ _ _ (end .on .onGrid) (end .on .step))
 
 next-toward-requires : tie.Need-next-toward-requires Inv-loop μ-loop Inv-ends μ-ends
 next-toward-requires c κs =
-    let pre = c .before .before .before .before .before .before .before .before .before .pre in
-    let r = reading pre (c .before .before .before .before .before .before .before .track-of .ensures) in
+    let pre = c .before .before .before .before .before .before .before .before .pre in
+    let r = reading pre (c .before .before .before .before .before .before .track-of .ensures) in
     let so-far = c .before .loop .inv .2 _ _ (pre .1) r in
     let end = end-told _ _ _ (c .before .before .before .end-on .ensures) (pre .1) r in
-    let less = count-within _ _ (c .loop-test .taken) (c .before .before .least .ensures) (end .on .room) in
-    let next = counting-next _ _ _ _ _ so-far less refl in
+    let next = counting-next _ _ _ _ _ so-far (count-within _ _ (c .loop-test .taken) (c .before .before .least .ensures) (end .on .room)) refl in
     (omega (arith, so-far .onGrid, pre .0 .vertices), omega (arith, r .strideFits), λ e. omega (arith, next .within e, so-far .step))
 
 clear-requires : tie.Need-clear-requires Inv-loop μ-loop Inv-ends μ-ends
 clear-requires c κs =
-    let pre = c .before .before .before .before .before .before .before .before .before .before .pre in
-    let r = reading pre (c .before .before .before .before .before .before .before .before .track-of .ensures) in
+    let pre = c .before .before .before .before .before .before .before .before .before .pre in
+    let r = reading pre (c .before .before .before .before .before .before .before .track-of .ensures) in
     let so-far = c .before .before .loop .inv .2 _ _ (pre .1) r in
     let end = end-told _ _ _ (c .before .before .before .before .end-on .ensures) (pre .1) r in
-    let less = count-within _ _ (c .before .loop-test .taken) (c .before .before .before .least .ensures) (end .on .room) in
-    let next = counting-next _ _ _ _ _ so-far less (c .next-toward .ensures) in
+    let next = counting-next _ _ _ _ _ so-far (count-within _ _ (c .before .loop-test .taken) (c .before .before .before .least .ensures) (end .on .room)) (c .next-toward .ensures) in
     omega (arith, next .onGrid, pre .0 .vertices)
 
-add-which-2 : tie.Need-add-which-2 Inv-loop μ-loop Inv-ends μ-ends
-add-which-2 c = omega (arith, c .before .before .before .before .loop .inv .0, c .before .before .before .before .before .before .before .before .ends-test .taken)
+add-which : tie.Need-add-which Inv-loop μ-loop Inv-ends μ-ends
+add-which c = omega (arith, c .before .before .before .before .loop .inv .0, c .before .before .before .before .before .before .before .ends-test .taken)
 
-ends-less-2 : tie.Need-ends-less-2 Inv-loop μ-loop Inv-ends μ-ends
-ends-less-2 c = omega (arith, c .before .before .before .before .loop .inv .0, c .before .before .before .before .before .before .before .before .ends-test .taken)
+ends-less : tie.Need-ends-less Inv-loop μ-loop Inv-ends μ-ends
+ends-less c = omega (arith, c .before .before .before .before .loop .inv .0, c .before .before .before .before .before .before .before .ends-test .taken)
 
-ends-again-2 : tie.Need-ends-again-2 Inv-loop μ-loop Inv-ends μ-ends
-ends-again-2 c g from on r =
+ends-again : tie.Need-ends-again Inv-loop μ-loop Inv-ends μ-ends
+ends-again c g from on r =
     let inv = c .before .before .before .before .loop .inv in
     let so-far = inv .2 g from on r in
     let end = end-told _ _ _ (c .before .before .before .before .before .before .end-on .ensures) on r in
     let less = count-within _ _ (c .before .before .before .loop-test .taken) (c .before .before .before .before .before .least .ensures) (end .on .room) in
     let next = counting-next _ _ _ _ _ so-far less (c .before .before .next-toward .ensures) in
-    let unclear = seen-clear _ _ _ (next .onGrid) ∙ sym (c .before .clear .ensures) ∙ not-true _ (c .if2 .taken) in
-    rw (inv .0, inv .1) (counted-on _ _ _ _ _ _ (c .before .before .before .before .before .before .before .before .ends-test .taken) (c .before .before .before .before .before .before .before .before .before .ends .inv g from on r) end
+    let unclear = seen-clear _ _ _ (next .onGrid) ∙ sym (c .before .clear .ensures) ∙ not-true _ (c .if1 .taken) in
+    rw (inv .0, inv .1) (counted-on _ _ _ _ _ _ (c .before .before .before .before .before .before .before .ends-test .taken) (c .before .before .before .before .before .before .before .before .ends .inv g from on r) end
     (counting-unclear _ _ _ _ _ so-far less (c .before .before .next-toward .ensures) unclear))
 
 add-laid : tie.Need-add-laid Inv-loop μ-loop Inv-ends μ-ends
-add-laid c = omega (arith, c .before .before .before .before .loop .inv .1, c .before .before .before .loop-test .taken)
+add-laid c =
+    omega (arith, c .before .before .before .before .loop .inv .1, c .before .before .before .loop-test .taken)
 
 add--count : tie.Need-add--count Inv-loop μ-loop Inv-ends μ-ends
 add--count c = search needs
@@ -155,31 +140,31 @@ loop-again c =
           let end = end-told _ _ _ (c .before .before .before .before .before .before .end-on .ensures) on r in
           let less = count-within _ _ (c .before .before .before .loop-test .taken) (c .before .before .before .before .before .least .ensures) (end .on .room) in
           let next = counting-next _ _ _ _ _ so-far less (c .before .before .next-toward .ensures) in
-          let is-clear = seen-clear _ _ _ (next .onGrid) ∙ sym (c .before .clear .ensures) ∙ not-false _ (c .if2 .left) in
+          let is-clear = seen-clear _ _ _ (next .onGrid) ∙ sym (c .before .clear .ensures) ∙ not-false _ (c .if1 .left) in
           counting-on _ _ _ _ _ so-far less (c .before .before .next-toward .ensures) is-clear,
     )
 
-add-which-3 : tie.Need-add-which-3 Inv-loop μ-loop Inv-ends μ-ends
-add-which-3 c = omega (arith, c .before .loop .inv .0, c .before .before .before .before .before .ends-test .taken)
+add-which-2 : tie.Need-add-which-2 Inv-loop μ-loop Inv-ends μ-ends
+add-which-2 c = omega (arith, c .before .loop .inv .0, c .before .before .before .before .ends-test .taken)
 
-ends-less-3 : tie.Need-ends-less-3 Inv-loop μ-loop Inv-ends μ-ends
-ends-less-3 c = omega (arith, c .before .loop .inv .0, c .before .before .before .before .before .ends-test .taken)
+ends-less-2 : tie.Need-ends-less-2 Inv-loop μ-loop Inv-ends μ-ends
+ends-less-2 c = omega (arith, c .before .loop .inv .0, c .before .before .before .before .ends-test .taken)
 
-ends-again-3 : tie.Need-ends-again-3 Inv-loop μ-loop Inv-ends μ-ends
-ends-again-3 c g from on r =
+ends-again-2 : tie.Need-ends-again-2 Inv-loop μ-loop Inv-ends μ-ends
+ends-again-2 c g from on r =
     let inv = c .before .loop .inv in
     let end = end-told _ _ _ (c .before .before .before .end-on .ensures) on r in
     let full = counting-full _ _ _ _ _ (inv .2 g from on r) (count-past _ _ (c .loop-test .left) (c .before .before .least .ensures) (end .on .room)) in
-    rw (inv .0, inv .1) (counted-on _ _ _ _ _ _ (c .before .before .before .before .before .ends-test .taken) (c .before .before .before .before .before .before .ends .inv g from on r) end full)
+    rw (inv .0, inv .1) (counted-on _ _ _ _ _ _ (c .before .before .before .before .ends-test .taken) (c .before .before .before .before .before .ends .inv g from on r) end full)
 
 otherwise-requires : tie.Need-otherwise-requires Inv-loop μ-loop Inv-ends μ-ends
 otherwise-requires c κs = search needs
 
 returns : tie.Need-returns Inv-loop μ-loop Inv-ends μ-ends
-returns c =
+returns c s heading steps =
     let pre = c .before .before .before .before .before .before .pre in
     let (first, all, order) = counted-done _ _ _ _ _ _ (c .before .before .before .ends .inv _ _ (pre .1) (reading pre (c .before .before .before .before .track-of .ensures))) (c .before .before .ends-test .left) in
-    short-pays _ _ _ _ _ _ (c .before .before .before .before .before .missing-of .ensures) (rw all at (c .before .if3 .taken)) (c .otherwise .ensures _ _ _ _)
+    short-pays _ _ _ _ s heading steps (c .before .before .before .before .before .missing-of .ensures) (rw all at (c .before .if2 .taken)) (c .otherwise .ensures _ _ _ _)
 
 sub-t23 : tie.Need-sub-t23 Inv-loop μ-loop Inv-ends μ-ends
 sub-t23 c =
@@ -188,13 +173,13 @@ sub-t23 c =
     order
 
 returns-2 : tie.Need-returns-2 Inv-loop μ-loop Inv-ends μ-ends
-returns-2 c =
+returns-2 c s heading steps =
     let pre = c .before .before .before .before .before .pre in
     let (first, all, order) = counted-done _ _ _ _ _ _ (c .before .before .ends .inv _ _ (pre .1) (reading pre (c .before .before .before .track-of .ensures))) (c .before .ends-test .left) in
-    rw (first, all) (short-lays _ _ _ _ _ _ (c .before .before .before .before .missing-of .ensures) (pre .1) (rw all at (c .if3 .left)) (omega (arith, c .before .before .before .before .missing-of .ensures, pre .3)))
+    rw (first, all) (short-lays _ _ _ _ s heading steps (c .before .before .before .before .missing-of .ensures) (pre .1) (rw all at (c .if2 .left)) (omega (arith, c .before .before .before .before .missing-of .ensures, pre .3)))
 
 pub too-short-spec : {M : Type 1} → statement M
 too-short-spec =
-    tie.close (tie.spec Inv-loop μ-loop Inv-ends μ-ends missing-of-requires track-of-requires ends-holds add-which ends-less ends-again end-on-requires
-    sub-least least-requires loop-holds next-toward-requires clear-requires add-which-2 ends-less-2 ends-again-2 add-laid add--count loop-less loop-again
-    add-which-3 ends-less-3 ends-again-3 otherwise-requires returns sub-t23 returns-2)
+    tie.close (tie.spec Inv-loop μ-loop Inv-ends μ-ends missing-of-requires track-of-requires ends-holds end-on-requires sub-least least-requires
+    loop-holds next-toward-requires clear-requires add-which ends-less ends-again add-laid add--count loop-less loop-again add-which-2 ends-less-2
+    ends-again-2 otherwise-requires returns sub-t23 returns-2)

@@ -17,7 +17,7 @@ enum-told c = search needs
 
 returns : tie.Need-returns
 unfolding costOf
-returns c g view v owed owes =
+returns c g view p owed owes =
     owed-closed _ _ _ _ _ _ _ _ owes (sym (ap costOf (c .enum-told .given .1)) ∙ c .before .before .overhead-price .ensures)
 
 enum-told-2 : tie.Need-enum-told-2
@@ -49,7 +49,7 @@ enum-told-4 c = search needs
 
 returns-2 : tie.Need-returns-2
 unfolding costOf
-returns-2 c g view v owed owes =
+returns-2 c g view p owed owes =
     let told = c .before .before .enum-told2 .given .1 in
     rw (c .by-via .ensures)
     (owed-nothing _ _ _ _ _ _ _ (rw told at owes)
@@ -58,7 +58,7 @@ returns-2 c g view v owed owes =
 
 returns-3 : tie.Need-returns-3
 unfolding costOf
-returns-3 c g view v owed owes =
+returns-3 c g view p owed owes =
     let told = c .before .before .overhead .given .1 in
     rw (c .by-via2 .ensures)
     (owed-lengthened _ _ _ _ _ _ _ (rw told at owes)
@@ -66,7 +66,7 @@ returns-3 c g view v owed owes =
 
 returns-4 : tie.Need-returns-4
 unfolding costOf
-returns-4 c g view v owed owes =
+returns-4 c g view p owed owes =
     let told = c .before .before .enum-told3 .given .1 in
     rw (c .by-via3 .ensures)
     (owed-penalised _ _ _ _ _ _ _ (rw told at owes)
@@ -74,7 +74,7 @@ returns-4 c g view v owed owes =
     (c .before .no-extension2 .ensures))
 
 returns-5 : tie.Need-returns-5
-returns-5 c g view v owed owes = owed-forbidden _ _ _ _ _ _ (c .before .before .before .before .before .before .args .line) (rw (c .enum-told4 .given .1) at owes)
+returns-5 c g view p owed owes = owed-forbidden _ _ _ _ _ _ (c .before .before .before .before .before .before .args .line) (rw (c .enum-told4 .given .1) at owes)
 
 pub leave-by-spec : {M : Type 1} → statement M
 leave-by-spec =
