@@ -2,23 +2,23 @@
 ghost use mathlib.Core.Path.{_≡_};
 ghost use Prim.Native.Nat.{_-_, _<_};
 ghost use Rattle.job.specs.Grid.{vertices};
-ghost use Rattle.job.specs.Structs.{Sized, gridOf, vertexStruct};
+ghost use Rattle.job.specs.Structs.{Sized, gridOf, vertexOf};
 ghost use Rattle.rules.specs.Tracks.{vertexBy};
 ghost use Rattle.rules.specs.Prices.{lineOf};
 ghost use Rattle.rules.specs.Segments.{Segment as SegmentRecord};
 ghost use Rattle.rules.specs.Overheads.{otherwise, tooShort, overheadOf};
 ghost use Rattle.rules.specs.Seen.{viewBy};
-ghost use Rattle.rules.specs.Structs.{directionOf, segmentOf, headingOf, stepsOf, lineRecord, techBy, seenBy, costOf, noExtension, FewMissing, IsOverhead, IsOverheadAnywhere, overheadCost, Here};
+ghost use Rattle.rules.specs.Structs.{OnGrid, trackOf, directionOf, segmentOf, headingOf, stepsOf, lineRecord, techBy, seenBy, costOf, noExtension, FewMissing, IsOverhead, IsOverheadAnywhere, overheadCost, Here};
+ghost use Rattle.job.specs.declared.grid.Grid.{Grid as GridStruct};
 ghost use Rattle.rules.specs.declared.price.Tech.{Tech as TechStruct};
 use crate::end::end_on;
 use crate::price::line_at;
 use crate::seen::clear;
 use crate::segment::Direction;
 use crate::segment::Segment;
+use crate::track::Track;
 use crate::track::next_toward;
-use crate::track::track_of;
 use bits::part::least;
-use job::grid::Grid;
 use job::grid::Vertex;
 use job::groups::Layer;
 use job::penalty::Penalty;
@@ -68,22 +68,22 @@ fn missing_of(least: usize, length: usize) -> usize
 // An extension of as many clear vertices as are missing, at the leaving end first and the rest at the starting
 // end, or the area penalty. The first vertex that isn't clear stops the count of its end.
 fn too_short(
-    grid: Grid,
+    track: Track,
     line: Layer,
     seen: &[u8; 16384],
     v: usize,
-    from: Vertex,
     toward: Direction,
     length: usize,
 ) -> Overhead
-    requires { ⌜ (Sized grid) × (v < vertices (gridOf grid)) × (from ≡ vertexStruct (vertexBy (gridOf grid) v)) × (line .least < 16) ⌝ }
-    ensures { λ r. ⌜ ((s : SegmentRecord) → headingOf s ≡ directionOf toward → stepsOf s ≡ length
+    requires { ⌜ ((grid : GridStruct) × (Sized grid) × (v < vertices (gridOf grid)) × (track ≡ trackOf (gridOf grid) (vertexBy (gridOf grid) v)))
+        × (line .least < 16) ⌝ }
+    ensures { λ r. ⌜ ((grid : GridStruct) (s : SegmentRecord) → OnGrid grid v → track ≡ trackOf (gridOf grid) (vertexBy (gridOf grid) v)
+        → headingOf s ≡ directionOf toward → stepsOf s ≡ length
         → (let view = viewBy (gridOf grid) (now (seen .entry)) in
         IsOverhead (line .wire) (line .area) (gridOf grid) view (record { vertex = v; segment = s }) r
         (tooShort (gridOf grid) (lineRecord line) view v (directionOf toward) length))) ⌝ }
 {
     let missing = missing_of(line.least, length);
-    let track = track_of(grid, from);
     let mut laid = 0;
     let mut leaving = 0;
     'ends: for which in 0..2 {
@@ -113,15 +113,15 @@ fn too_short(
 
 // A fresh segment takes high, then low: it goes high with no length. A paid segment owes nothing.
 pub fn overhead_of(
-    grid: Grid,
+    track: Track,
     prices: &[usize; 48],
     seen: &[u8; 16384],
     v: usize,
     from: Vertex,
     segment: Segment,
 ) -> Overhead
-    requires { ⌜ ((tech : TechStruct) × Here tech (now prices) v from × (tech .grid ≡ grid)) ⌝ }
-    ensures { λ r. ⌜ ((tech : TechStruct) → Here tech (now (prices .entry)) v from → tech .grid ≡ grid
+    requires { ⌜ ((tech : TechStruct) × Here tech (now prices) v from × (track ≡ trackOf (gridOf (tech .grid)) (vertexOf from))) ⌝ }
+    ensures { λ r. ⌜ ((tech : TechStruct) → Here tech (now (prices .entry)) v from → track ≡ trackOf (gridOf (tech .grid)) (vertexOf from)
         → (let view = seenBy tech (now (seen .entry)) in
         let line = lineOf (techBy tech) v in
         IsOverhead (line .wire) (line .area) (gridOf (tech .grid)) view (record { vertex = v; segment = segmentOf segment }) r
@@ -129,8 +129,8 @@ pub fn overhead_of(
 {
     let line = line_at(prices, from.layer);
     match segment {
-        Segment::Fresh => too_short(grid, line, seen, v, from, Direction::High, 0),
-        Segment::Running(toward, length) => too_short(grid, line, seen, v, from, toward, length),
+        Segment::Fresh => too_short(track, line, seen, v, Direction::High, 0),
+        Segment::Running(toward, length) => too_short(track, line, seen, v, toward, length),
         Segment::Paid => Overhead::Nothing,
         Segment::PaidToward(_toward) => Overhead::Nothing,
     }

@@ -26,6 +26,7 @@ use crate::track::Entered;
 use crate::track::Kind;
 use crate::track::entered_by;
 use crate::track::kind_of;
+use crate::track::track_of;
 use crate::track::vertex_by;
 use job::grid::Grid;
 use job::grid::Vertex;
@@ -173,7 +174,8 @@ fn leave_layer(
         (leaving into enter (overheadOf (techBy tech) view (place .vertex) (segmentOf (place .segment)))))) ⌝ }
 {
     let segment = place.segment;
-    let overhead = overhead_of(grid, prices, seen, place.vertex, from, segment);
+    let track = track_of(grid, from);
+    let overhead = overhead_of(track, prices, seen, place.vertex, from, segment);
     leave_by(line_at(prices, from.layer), into, enter, overhead)
 }
 

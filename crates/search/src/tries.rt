@@ -31,6 +31,7 @@ use rules::step::Place;
 use rules::step::entry_of;
 use rules::track::Kind;
 use rules::track::kind_of;
+use rules::track::track_of;
 
 // What a via owes does not depend on the via: it is asked once for a settled place, and held as the field of
 // a penalty. No field is this number, which stands before it is asked.
@@ -135,7 +136,8 @@ fn ask_owed(
     let place = settled.place;
     let segment = place.segment;
     let from = settled.vertex;
-    let overhead = overhead_of(tech.grid, prices, seen, place.vertex, from, segment);
+    let track = track_of(tech.grid, from);
+    let overhead = overhead_of(track, prices, seen, place.vertex, from, segment);
     match overhead_price(line_at(prices, from.layer), overhead) {
         Penalty::Closed => Penalty::CLOSED,
         Penalty::Price(over) => over,

@@ -4,13 +4,15 @@ use mathlib.Core.Path.{_≡_, refl, ap, _∙_}
 use mathlib.Core.List.{List}
 use native.Mathlib.Omega.{arith}
 use borrow.Author.Needs.{needs}
-use Rattle.job.specs.Structs.{layerStruct}
+use Rattle.job.specs.Structs.{gridOf, vertexOf, layerStruct}
 use Rattle.job.specs.declared.groups.Layer.{Layer}
 use Rattle.job.specs.declared.grid.Vertex.{Vertex as VertexStruct}
+use Rattle.rules.specs.Tracks.{vertexBy}
 use Rattle.rules.specs.Prices.{lineOf}
 use Rattle.rules.specs.Segments.{fresh, running}
 use Rattle.rules.specs.Overheads.{overheadOf}
-use Rattle.rules.specs.Structs.{directionOf, segmentOf, headingOf, stepsOf, techBy, overheadBy, FewMissing, WholeOverhead, Here}
+use Rattle.rules.specs.Structs.{OnGrid, trackOf, directionOf, segmentOf, headingOf, stepsOf, techBy, overheadBy, FewMissing, WholeOverhead, Here}
+use Rattle.rules.specs.declared.track.Track.{Track}
 use Rattle.rules.specs.declared.price.Tech.{Tech as TechStruct}
 use Rattle.rules.proofs.Fitting.{layer-known}
 use Rattle.rules.proofs.Held.{line-fits}
@@ -24,6 +26,15 @@ few-least : {t : TechStruct} {prices : List ℕ} {v : ℕ} {from : VertexStruct}
     → line ≡ layerStruct (lineOf (techBy t) v) → line .least < 16
 few-least here is = omega (arith, ap (λ (l : Layer). l .least) is, line-fits (here .fits) (here .there) .minLength)
 
+-- the vertex is on the grid
+here-on : {t : TechStruct} {prices : List ℕ} {v : ℕ} {from : VertexStruct} → Here t prices v from → OnGrid (t .grid) v
+here-on here = record { small = here .fits .sized .small; there = here .there }
+
+-- the track of the vertex that the code has read is that of its number
+on-track : {t : TechStruct} {prices : List ℕ} {v : ℕ} {from : VertexStruct} {track : Track} → Here t prices v from
+    → track ≡ trackOf (gridOf (t .grid)) (vertexOf from) → track ≡ trackOf (gridOf (t .grid)) (vertexBy (gridOf (t .grid)) v)
+on-track {t} here is = is ∙ ap (λ (x : VertexStruct). trackOf (gridOf (t .grid)) (vertexOf x)) (here .is)
+
 line-at-requires : tie.Need-line-at-requires
 line-at-requires c κs = layer-known (c .pre .1)
 
@@ -32,16 +43,16 @@ enum-told c = search needs
 
 too-short-requires : tie.Need-too-short-requires
 too-short-requires c κs =
-    let (tech, here, same) = c .before .before .before .pre in
-    (rw (← same) (here .fits .sized), rw (← same) (here .there), rw (← same) (here .is), few-least here (c .before .before .line-at .ensures ∙ line-told here))
+    let (tech, here, is) = c .before .before .before .pre in
+    ((tech .grid, here .fits .sized, here .there, on-track here is), few-least here (c .before .before .line-at .ensures ∙ line-told here))
 
 enum-known-segment : tie.Need-enum-known-segment
 enum-known-segment c = search needs
 
 too-short-requires-2 : tie.Need-too-short-requires-2
 too-short-requires-2 c κs =
-    let (tech, here, same) = c .before .before .before .before .pre in
-    (rw (← same) (here .fits .sized), rw (← same) (here .there), rw (← same) (here .is), few-least here (c .before .before .before .line-at .ensures ∙ line-told here))
+    let (tech, here, is) = c .before .before .before .before .pre in
+    ((tech .grid, here .fits .sized, here .there, on-track here is), few-least here (c .before .before .before .line-at .ensures ∙ line-told here))
 
 enum-told-2 : tie.Need-enum-told-2
 enum-told-2 c = search needs
@@ -51,23 +62,23 @@ enum-known-segment-2 c = search needs
 
 returns : tie.Need-returns
 unfolding segmentOf overheadOf directionOf headingOf stepsOf techBy
-returns c tech here same =
+returns c tech here is =
     rw (c .before .enum-told .given .1)
-    (short-told (techBy tech) _ _ _ _ (c .before .before .before .line-at .ensures ∙ line-told here) (rw (← same) at (c .too-short .ensures fresh refl refl)))
+    (short-told (techBy tech) _ _ _ _ (c .before .before .before .line-at .ensures ∙ line-told here) (c .too-short .ensures (tech .grid) fresh (here-on here) (on-track here is) refl refl))
 
 returns-2 : tie.Need-returns-2
 unfolding segmentOf overheadOf headingOf stepsOf techBy
-returns-2 c tech here same =
+returns-2 c tech here is =
     rw (c .before .before .segment .given .1)
-    (short-told (techBy tech) _ _ _ _ (c .before .before .before .before .line-at .ensures ∙ line-told here) (rw (← same) at (c .too-short2 .ensures (running _ _) refl refl)))
+    (short-told (techBy tech) _ _ _ _ (c .before .before .before .before .line-at .ensures ∙ line-told here) (c .too-short2 .ensures (tech .grid) (running _ _) (here-on here) (on-track here is) refl refl))
 
 returns-3 : tie.Need-returns-3
 unfolding segmentOf overheadOf overheadBy FewMissing WholeOverhead
-returns-3 c tech here same = rw (c .enum-told2 .given .1) (record { same = refl; few = tt; whole = tt })
+returns-3 c tech here is = rw (c .enum-told2 .given .1) (record { same = refl; few = tt; whole = tt })
 
 returns-4 : tie.Need-returns-4
 unfolding segmentOf overheadOf overheadBy FewMissing WholeOverhead
-returns-4 c tech here same = rw (c .before .segment2 .given .1) (record { same = refl; few = tt; whole = tt })
+returns-4 c tech here is = rw (c .before .segment2 .given .1) (record { same = refl; few = tt; whole = tt })
 
 pub overhead-of-spec : {M : Type 1} → statement M
 overhead-of-spec =

@@ -6,16 +6,15 @@ use native.Mathlib.Omega.{arith}
 use borrow.Author.Needs.{needs}
 use borrow.Author.Tests.{not-true, not-false}
 use Rattle.job.specs.Grid.{vertices}
-use Rattle.job.specs.Structs.{Sized, gridOf, vertexOf, vertexStruct}
+use Rattle.job.specs.Structs.{Sized, gridOf}
 use Rattle.job.specs.declared.grid.Grid.{Grid as GridStruct}
 use Rattle.job.specs.declared.grid.Vertex.{Vertex as VertexStruct}
-use Rattle.rules.specs.Tracks.{vertexBy}
 use Rattle.rules.specs.Seen.{viewBy}
-use Rattle.rules.specs.Structs.{OnGrid, trackOf, directionOf, endOn}
+use Rattle.rules.specs.Structs.{OnGrid, directionOf, endOn}
 use Rattle.rules.specs.declared.segment.Direction.{Direction}
 use Rattle.rules.specs.declared.track.Track.{Track}
 use Rattle.rules.specs.declared.end.End.{End}
-use Rattle.rules.proofs.Fitting.{fits, TrackRead, track-read}
+use Rattle.rules.proofs.Fitting.{TrackRead, track-known}
 use Rattle.rules.proofs.Held.{seen-clear}
 use Rattle.rules.proofs.Runs.{OnTrack, Counting, counting-begun, counting-next, counting-on, counting-unclear, counting-full}
 use Rattle.rules.proofs.Ends.{EndRead, end-read, Counted, counted-begun, counted-on, counted-within, counted-done}
@@ -24,25 +23,23 @@ use Rattle.rules.proofs.overhead.too_short.Statement.{statement}
 use Rattle.rules.proofs.overhead.too_short.Tie as tie
 
 abbrev Inv-loop : tie.InvT-loop
-Inv-loop line seen v toward length missing track laid₀ leaving which₀ away last₀ -count₀ -count-end laid which last -count =
+Inv-loop track line seen v toward length missing laid₀ leaving which₀ away last₀ -count₀ -count-end laid which last -count =
     (which ≡ which₀) × (laid ≡ laid₀ + -count)
     × OnTrack v track (λ g. Counting g (viewBy g seen) (directionOf away) (missing - laid₀) last₀ (track .stride) last -count)
 
 abbrev μ-loop : tie.MeasureT-loop
-μ-loop line seen v toward length missing track laid₀ leaving which₀ away last₀ -count₀ -count-end laid which last -count = -count-end - -count
+μ-loop track line seen v toward length missing laid₀ leaving which₀ away last₀ -count₀ -count-end laid which last -count = -count-end - -count
 
 abbrev Inv-ends : tie.InvT-ends
-Inv-ends line seen v toward length missing track laid₀ leaving₀ which₀ laid leaving which =
+Inv-ends track line seen v toward length missing laid₀ leaving₀ which₀ laid leaving which =
     OnTrack v track (λ g. Counted g (viewBy g seen) (directionOf toward) missing length v which leaving laid)
 
 abbrev μ-ends : tie.MeasureT-ends
-μ-ends line seen v toward length missing track laid₀ leaving₀ which₀ laid leaving which = 2 - which
+μ-ends track line seen v toward length missing laid₀ leaving₀ which₀ laid leaving which = 2 - which
 
--- what the code has read of the track
-reading : {grid : GridStruct} {v least : ℕ} {from : VertexStruct} {track : Track}
-    → (Sized grid) × (v < vertices (gridOf grid)) × (from ≡ vertexStruct (vertexBy (gridOf grid) v)) × (least < 16)
-    → track ≡ trackOf (gridOf grid) (vertexOf from) → TrackRead grid v from track
-reading pre is = track-read _ _ (record { small = pre .0 .small; there = pre .1 }) (pre .2) is
+-- a vertex of the grid
+on-grid : {grid : GridStruct} {v : ℕ} → Sized grid → v < vertices (gridOf grid) → OnGrid grid v
+on-grid sized there = record { small = sized .small; there = there }
 
 -- what it has read of an end
 end-told : {g : GridStruct} {v : ℕ} {from : VertexStruct} {track : Track} (d : Direction) (n which : ℕ) {end : End} → end ≡ endOn track v d n which
@@ -59,49 +56,49 @@ count-past most room h e f = omega (arith, h, e, f)
 missing-of-requires : tie.Need-missing-of-requires Inv-loop μ-loop Inv-ends μ-ends
 missing-of-requires c κs = search needs
 
-track-of-requires : tie.Need-track-of-requires Inv-loop μ-loop Inv-ends μ-ends
-track-of-requires c κs =
-    let pre = c .before .pre in
-    let on : OnGrid (c .before .args .grid) (c .before .args .v) = record { small = pre .0 .small; there = pre .1 } in
-    (pre .0 .small, rw (pre .2) (fits (c .before .args .grid) (c .before .args .v) on .layer))
-
 ends-holds : tie.Need-ends-holds Inv-loop μ-loop Inv-ends μ-ends
 ends-holds c g from on r = counted-begun _ _ _ _ _ _
 
 end-on-requires : tie.Need-end-on-requires Inv-loop μ-loop Inv-ends μ-ends
 end-on-requires c κs =
-    let pre = c .before .before .before .before .pre in
-    (c .before .before .before .before .args .grid, record { small = pre .0 .small; there = pre .1 }, c .before .before .track-of .ensures ∙ ap (λ (x : VertexStruct). trackOf (gridOf (c .before .before .before .before .args .grid)) (vertexOf x)) (pre .2))
+    let (grid, sized, there, is) = c .before .before .before .pre .0 in
+    (grid, on-grid sized there, is)
 
 sub-least : tie.Need-sub-least Inv-loop μ-loop Inv-ends μ-ends
 sub-least c =
-    let pre = c .before .before .before .before .before .pre in
-    let so-far = c .before .before .ends .inv _ _ (pre .1) (reading pre (c .before .before .before .track-of .ensures)) in
-    omega (arith, counted-within _ _ _ _ _ _ so-far (pre .1))
+    let (grid, sized, there, is) = c .before .before .before .before .pre .0 in
+    let r = track-known (on-grid sized there) is in
+    omega (arith, counted-within _ _ _ _ _ _ (c .before .before .ends .inv grid _ there r) there)
 
 least-requires : tie.Need-least-requires Inv-loop μ-loop Inv-ends μ-ends
 least-requires c κs = search needs
 
 loop-holds : tie.Need-loop-holds Inv-loop μ-loop Inv-ends μ-ends
-loop-holds c = (refl, omega arith, λ g from on r. let end = end-told _ _ _ (c .before .end-on .ensures) on r in counting-begun _ _ _ _ _ (end .on .onGrid) (end .on .step))
+loop-holds c = (
+  refl,
+  omega arith,
+  λ g from on r. let end = end-told _ _ _ (c .before .end-on .ensures) on r in counting-begun _ _ _ _ _ (end .on .onGrid) (end .on .step),
+)
 
 next-toward-requires : tie.Need-next-toward-requires Inv-loop μ-loop Inv-ends μ-ends
 next-toward-requires c κs =
-    let pre = c .before .before .before .before .before .before .before .before .pre in
-    let r = reading pre (c .before .before .before .before .before .before .track-of .ensures) in
-    let so-far = c .before .loop .inv .2 _ _ (pre .1) r in
-    let end = end-told _ _ _ (c .before .before .before .end-on .ensures) (pre .1) r in
-    let next = counting-next _ _ _ _ _ so-far (count-within _ _ (c .loop-test .taken) (c .before .before .least .ensures) (end .on .room)) refl in
-    (omega (arith, so-far .onGrid, pre .0 .vertices), omega (arith, r .strideFits), λ e. omega (arith, next .within e, so-far .step))
+    let (grid, sized, there, is) = c .before .before .before .before .before .before .before .pre .0 in
+    let r = track-known (on-grid sized there) is in
+    let so-far = c .before .loop .inv .2 grid _ there r in
+    let end = end-told _ _ _ (c .before .before .before .end-on .ensures) there r in
+    let less = count-within _ _ (c .loop-test .taken) (c .before .before .least .ensures) (end .on .room) in
+    let next = counting-next _ _ _ _ _ so-far less refl in
+    (omega (arith, so-far .onGrid, sized .vertices), omega (arith, r .strideFits), λ e. omega (arith, next .within e, so-far .step))
 
 clear-requires : tie.Need-clear-requires Inv-loop μ-loop Inv-ends μ-ends
 clear-requires c κs =
-    let pre = c .before .before .before .before .before .before .before .before .before .pre in
-    let r = reading pre (c .before .before .before .before .before .before .before .track-of .ensures) in
-    let so-far = c .before .before .loop .inv .2 _ _ (pre .1) r in
-    let end = end-told _ _ _ (c .before .before .before .before .end-on .ensures) (pre .1) r in
-    let next = counting-next _ _ _ _ _ so-far (count-within _ _ (c .before .loop-test .taken) (c .before .before .before .least .ensures) (end .on .room)) (c .next-toward .ensures) in
-    omega (arith, next .onGrid, pre .0 .vertices)
+    let (grid, sized, there, is) = c .before .before .before .before .before .before .before .before .pre .0 in
+    let r = track-known (on-grid sized there) is in
+    let so-far = c .before .before .loop .inv .2 grid _ there r in
+    let end = end-told _ _ _ (c .before .before .before .before .end-on .ensures) there r in
+    let less = count-within _ _ (c .before .loop-test .taken) (c .before .before .before .least .ensures) (end .on .room) in
+    let next = counting-next _ _ _ _ _ so-far less (c .next-toward .ensures) in
+    omega (arith, next .onGrid, sized .vertices)
 
 add-which : tie.Need-add-which Inv-loop μ-loop Inv-ends μ-ends
 add-which c = omega (arith, c .before .before .before .before .loop .inv .0, c .before .before .before .before .before .before .before .ends-test .taken)
@@ -121,8 +118,7 @@ ends-again c g from on r =
     (counting-unclear _ _ _ _ _ so-far less (c .before .before .next-toward .ensures) unclear))
 
 add-laid : tie.Need-add-laid Inv-loop μ-loop Inv-ends μ-ends
-add-laid c =
-    omega (arith, c .before .before .before .before .loop .inv .1, c .before .before .before .loop-test .taken)
+add-laid c = omega (arith, c .before .before .before .before .loop .inv .1, c .before .before .before .loop-test .taken)
 
 add--count : tie.Need-add--count Inv-loop μ-loop Inv-ends μ-ends
 add--count c = search needs
@@ -161,25 +157,25 @@ otherwise-requires : tie.Need-otherwise-requires Inv-loop μ-loop Inv-ends μ-en
 otherwise-requires c κs = search needs
 
 returns : tie.Need-returns Inv-loop μ-loop Inv-ends μ-ends
-returns c s heading steps =
-    let pre = c .before .before .before .before .before .before .pre in
-    let (first, all, order) = counted-done _ _ _ _ _ _ (c .before .before .before .ends .inv _ _ (pre .1) (reading pre (c .before .before .before .before .track-of .ensures))) (c .before .before .ends-test .left) in
-    short-pays _ _ _ _ s heading steps (c .before .before .before .before .before .missing-of .ensures) (rw all at (c .before .if2 .taken)) (c .otherwise .ensures _ _ _ _)
+returns c g s on is heading steps =
+    let (first, all, order) = counted-done _ _ _ _ _ _ (c .before .before .before .ends .inv g _ (on .there) (track-known on is)) (c .before .before .ends-test .left) in
+    short-pays _ _ _ _ s heading steps (c .before .before .before .before .missing-of .ensures) (rw all at (c .before .if2 .taken)) (c .otherwise .ensures _ _ _ _)
 
-sub-t23 : tie.Need-sub-t23 Inv-loop μ-loop Inv-ends μ-ends
-sub-t23 c =
-    let pre = c .before .before .before .before .before .pre in
-    let (first, all, order) = counted-done _ _ _ _ _ _ (c .before .before .ends .inv _ _ (pre .1) (reading pre (c .before .before .before .track-of .ensures))) (c .before .ends-test .left) in
+sub-t21 : tie.Need-sub-t21 Inv-loop μ-loop Inv-ends μ-ends
+sub-t21 c =
+    let (grid, sized, there, is) = c .before .before .before .before .pre .0 in
+    let r = track-known (on-grid sized there) is in
+    let (first, all, order) = counted-done _ _ _ _ _ _ (c .before .before .ends .inv grid _ there r) (c .before .ends-test .left) in
     order
 
 returns-2 : tie.Need-returns-2 Inv-loop μ-loop Inv-ends μ-ends
-returns-2 c s heading steps =
-    let pre = c .before .before .before .before .before .pre in
-    let (first, all, order) = counted-done _ _ _ _ _ _ (c .before .before .ends .inv _ _ (pre .1) (reading pre (c .before .before .before .track-of .ensures))) (c .before .ends-test .left) in
-    rw (first, all) (short-lays _ _ _ _ s heading steps (c .before .before .before .before .missing-of .ensures) (pre .1) (rw all at (c .if2 .left)) (omega (arith, c .before .before .before .before .missing-of .ensures, pre .3)))
+returns-2 c g s on is heading steps =
+    let (first, all, order) = counted-done _ _ _ _ _ _ (c .before .before .ends .inv g _ (on .there) (track-known on is)) (c .before .ends-test .left) in
+    let missing = c .before .before .before .missing-of .ensures in
+    rw (first, all) (short-lays _ _ _ _ s heading steps missing (on .there) (rw all at (c .if2 .left)) (omega (arith, missing, c .before .before .before .before .pre .1)))
 
 pub too-short-spec : {M : Type 1} → statement M
 too-short-spec =
-    tie.close (tie.spec Inv-loop μ-loop Inv-ends μ-ends missing-of-requires track-of-requires ends-holds end-on-requires sub-least least-requires
-    loop-holds next-toward-requires clear-requires add-which ends-less ends-again add-laid add--count loop-less loop-again add-which-2 ends-less-2
-    ends-again-2 otherwise-requires returns sub-t23 returns-2)
+    tie.close (tie.spec Inv-loop μ-loop Inv-ends μ-ends missing-of-requires ends-holds end-on-requires sub-least least-requires loop-holds
+    next-toward-requires clear-requires add-which ends-less ends-again add-laid add--count loop-less loop-again add-which-2 ends-less-2 ends-again-2
+    otherwise-requires returns sub-t21 returns-2)
