@@ -23,9 +23,9 @@
 
 /* The version, which the package and the tool have from here. */
 #define MAIZESPELL_VERSION_MAJOR 0
-#define MAIZESPELL_VERSION_MINOR 2
+#define MAIZESPELL_VERSION_MINOR 3
 #define MAIZESPELL_VERSION_PATCH 0
-#define MAIZESPELL_VERSION "0.2.0"
+#define MAIZESPELL_VERSION "0.3.0"
 
 #ifdef __cplusplus
 extern "C" {

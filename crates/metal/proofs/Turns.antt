@@ -95,8 +95,8 @@ module _ {occupants : List ℕ} {count done : ℕ} {found held : List ℕ} (so-f
 
 -- ---- laying a run
 
--- along a track by its stride: so many vertices are laid, and laying those that are left beyond the last gives
--- all
+-- along a track by its stride: so many vertices are laid, and laying those that are left beyond the last
+-- gives all
 pub record Running (g : Grid) (d : Direction) (net count v : ℕ) (found : List ℕ) (stride last done : ℕ) (held : List ℕ) : Type 0 where
   pub onGrid : last < vertices g
   pub step : strideOf g (layerOf g last) ≡ stride

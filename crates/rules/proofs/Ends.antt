@@ -1,10 +1,12 @@
 -- The two ends of a segment, and the clear vertices beyond them.
---     endVertex, endToward     the vertex of an end, and the direction that leads on from it
---     EndRead, end-read        what the code has read of an end
---     reached                          how many clear vertices lie beyond the ends so far
---     leaving-, starting-, ends-count  beyond the leaving end, the starting end and both
---     Counted, counted-begun, -on, -within, -done  so many ends are counted
---     run-whole                a clear run is as long as it is
+--     endVertex, endToward               the vertex of an end, and the direction that leads on from it
+--     EndRead, end-read                  what the code has read of an end
+--     Back, way-back                     how far the first vertex lies back
+--     reached                            how many clear vertices lie beyond the ends so far
+--     leaving-, starting-, ends-count    beyond the leaving end, the starting end and both
+--     Counted, counted-begun, -on,       so many ends are counted
+--         -within, -done
+--     run-whole                          a clear run is as long as it is
 use Prim.Native.Nat.{ℕ, zero, suc, _+_, _-_, _*_, _≤_, _<_, min}
 use mathlib.Core.Path.{_≡_, refl, sym, ap, _∙_}
 use mathlib.Core.List.{List, [], _∷_}
@@ -15,18 +17,18 @@ use Rattle.job.specs.Grid.{Grid, vertices, strideOf}
 use Rattle.job.specs.Structs.{gridOf}
 use Rattle.job.specs.declared.grid.Grid.{Grid as GridStruct}
 use Rattle.job.specs.declared.grid.Vertex.{Vertex as VertexStruct}
-use Rattle.rules.specs.Tracks.{layerOf, Entered, outside, at, entered}
+use Rattle.rules.specs.Tracks.{Entered, outside, at, entered}
 use Rattle.rules.specs.Views.{View}
 use Rattle.rules.specs.Segments.{Direction, low, opposite}
 use Rattle.rules.specs.Overheads.{clear, toward, onFrom, clearRun, firstOf, bothEnds}
-use Rattle.rules.specs.Structs.{directionOf, oppositeTo, roomIn, roomToward, nextOn, EndOn, endOn}
+use Rattle.rules.specs.Structs.{directionOf, oppositeTo, roomIn, EndOn, endOn}
 use Rattle.rules.specs.declared.segment.Direction.{Direction as DirectionEnum}
 use Rattle.rules.specs.declared.segment.Direction.the-variants.{Low, High}
 use Rattle.rules.specs.declared.track.Track.{Track}
 use Rattle.rules.specs.declared.end.End.{End}
 use Rattle.rules.proofs.Fitting.{TrackRead}
 use Rattle.rules.proofs.Rooms.{room-read, run-within}
-use Rattle.rules.proofs.Firsts.{distance, First, first-on, first-near, first-below}
+use Rattle.rules.proofs.Firsts.{distance, first-on, first-near, first-below}
 
 -- the vertex of an end: the last vertex, then the first
 unfoldable pub endVertex : Grid → Direction → (n v which : ℕ) → ℕ

@@ -4,7 +4,7 @@
 --     first-near           it lies no farther off than the grid goes
 --     first-below          of the grid
 use Prim.Native.Nat.{ℕ, zero, suc, _+_, _-_, _*_, _≤_, _<_, min}
-use mathlib.Core.Path.{_≡_, refl, sym, ap, _∙_}
+use mathlib.Core.Path.{_≡_, refl, ap, _∙_}
 use native.Mathlib.Omega.{arith}
 use Rattle.job.specs.Grid.{Grid, vertices, strideOf}
 use Rattle.rules.specs.Tracks.{layerOf, at, entered}

@@ -45,8 +45,8 @@ unfoldable pub firstOf : Grid → Direction → (n last : ℕ) → ℕ
 firstOf g d zero v = v
 firstOf g d (suc n) v = backFrom v (firstOf g d n) (entered g v (toward (opposite d)))
 
--- "the clear vertices beyond the last vertex and those beyond the segment's first vertex are counted together":
--- at most k, "at the leaving end first, then at the starting end"
+-- "the clear vertices beyond the last vertex and those beyond the segment's first vertex are counted
+-- together": at most k, "at the leaving end first, then at the starting end"
 unfoldable pub bothEnds : Grid → View → Direction → (k last first : ℕ) → List ℕ
 bothEnds g view d k last first =
     let leaving = clearRun g view d k last in

@@ -65,8 +65,8 @@ fn missing_of(least: usize, length: usize) -> usize
     if length < least { least - length } else { 0 }
 }
 
-// An extension of as many clear vertices as are missing, at the leaving end first and the rest at the starting
-// end, or the area penalty. The first vertex that isn't clear stops the count of its end.
+// An extension of as many clear vertices as are missing, at the leaving end first and the rest at the
+// starting end, or the area penalty. The first vertex that isn't clear stops the count of its own end.
 fn too_short(
     track: Track,
     line: Layer,
@@ -87,6 +87,7 @@ fn too_short(
     let mut laid = 0;
     let mut leaving = 0;
     'ends: for which in 0..2 {
+        // Once the starting end begins, what was laid so far is at the leaving end.
         leaving = laid;
         let end = end_on(track, v, toward, length, which);
         let away = end.toward;

@@ -1,7 +1,7 @@
--- `metal::codes::lay_run` meets its contract: so many vertices are laid, and laying those that are left beyond
--- the last gives all.
+-- `metal::codes::lay_run` meets its contract: so many vertices are laid, and laying those that are left
+-- beyond the last gives all.
 use Prim.Native.Nat.{ℕ, _-_, _≤_, _<_, min}
-use mathlib.Core.Path.{_≡_, refl, sym, ap, _∙_}
+use mathlib.Core.Path.{_≡_, refl, ap, _∙_}
 use native.Mathlib.Omega.{arith}
 use borrow.Author.Needs.{needs}
 use Rattle.job.specs.Grid.{vertices, strideOf}

@@ -1,7 +1,7 @@
--- `rules::overhead::too_short` meets its contract. Between turns of the outer loop the clear vertices beyond so
--- many ends are counted; at an end, those up to the last vertex are.
+-- `rules::overhead::too_short` meets its contract. Between turns of the outer loop the clear vertices beyond
+-- so many ends are counted; at an end, those up to the last vertex are.
 use Prim.Native.Nat.{ℕ, _+_, _-_, _≤_, _<_, min}
-use mathlib.Core.Path.{_≡_, refl, sym, ap, _∙_}
+use mathlib.Core.Path.{_≡_, refl, sym, _∙_}
 use native.Mathlib.Omega.{arith}
 use borrow.Author.Needs.{needs}
 use borrow.Author.Tests.{not-true, not-false}

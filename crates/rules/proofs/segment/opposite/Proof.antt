@@ -1,7 +1,7 @@
 -- `rules::segment::opposite` meets its contract.
 use mathlib.Core.Path.{refl}
 use borrow.Author.Needs.{needs}
-use Rattle.rules.specs.Structs.{directionOf, oppositeTo}
+use Rattle.rules.specs.Structs.{oppositeTo}
 use Rattle.rules.proofs.segment.opposite.Statement.{statement}
 use Rattle.rules.proofs.segment.opposite.Tie as tie
 

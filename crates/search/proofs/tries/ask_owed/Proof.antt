@@ -1,5 +1,5 @@
 -- `search::tries::ask_owed` meets its contract.
-use mathlib.Core.Path.{refl, ap, _∙_}
+use mathlib.Core.Path.{ap, _∙_}
 use native.Mathlib.Omega.{arith}
 use borrow.Author.Needs.{needs}
 use Rattle.job.specs.declared.groups.Layer.{Layer}
