@@ -69,7 +69,7 @@ enum maizespell_map {
 /* The stack that a call needs, in bytes. */
 enum maizespell_stack {
     MAIZESPELL_SIZING_STACK = 18 * 1024,
-    MAIZESPELL_REPLAY_STACK = 52 * 1024,
+    MAIZESPELL_REPLAY_STACK = 53 * 1024,
     MAIZESPELL_ROUTING_STACK = 74 * 1024
 };
 
