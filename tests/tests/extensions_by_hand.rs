@@ -133,51 +133,46 @@ fn a_fresh_segment_takes_high_then_low() {
     check(&job, &[up], &[0, 1, 0], totals(54, 0, 1, 1));
 }
 
+/// Two nets, each with one join from its first pin: moves and cost.
+fn check_two(
+    nets: [[Vertex; 2]; 2],
+    joins: [(&[Move], u64); 2],
+    layer_1: &[u16],
+    (added, penalties): (u64, u64),
+) {
+    let job = tower(8, 3, &[&nets[0], &nets[1]]);
+    let made = |net: usize| join(nets[net][0], joins[net].0, joins[net].1);
+    let cost = joins[0].1 + joins[1].1;
+    let totals = totals(cost, added, penalties, 2);
+    check(&job, &[made(0), made(1)], layer_1, totals);
+}
+
 /// One step and two owed, beyond row 1 or beyond row 6; another net's pin is just past them or
 /// the second of them.
 #[test]
 fn another_pin_stops_the_count_at_either_end() {
-    let check_beside = |from, pin, cost, layer_1: &[u16], added: u64| {
-        let job = tower(8, 3, &[&through(from, from + 1), &pin_at(pin)]);
-        let records = [
-            join(vertex(0, from, 0), &[Up, High, Up], cost),
-            join(vertex(0, pin, 0), &[Up], 2),
-        ];
-        let penalties = u64::from(added == 0);
-        check(
-            &job,
-            &records,
-            layer_1,
-            totals(cost + 2, added, penalties, 2),
-        );
+    let check_beside = |from, pin, cost, layer_1: &[u16], laid| {
+        let nets = [through(from, from + 1), pin_at(pin)];
+        check_two(nets, [(&[Up, High, Up], cost), (&[Up], 2)], layer_1, laid);
     };
-    check_beside(0, 4, 7, &[1, 1, 1, 1, 2, 0, 0, 0], 2);
-    check_beside(0, 3, 55, &[1, 1, 0, 2, 0, 0, 0, 0], 0);
-    check_beside(6, 3, 7, &[0, 0, 0, 2, 1, 1, 1, 1], 2);
-    check_beside(6, 4, 55, &[0, 0, 0, 0, 2, 0, 1, 1], 0);
+    check_beside(0, 4, 7, &[1, 1, 1, 1, 2, 0, 0, 0], (2, 0));
+    check_beside(0, 3, 55, &[1, 1, 0, 2, 0, 0, 0, 0], (0, 1));
+    check_beside(6, 3, 7, &[0, 0, 0, 2, 1, 1, 1, 1], (2, 0));
+    check_beside(6, 4, 55, &[0, 0, 0, 0, 2, 0, 1, 1], (0, 1));
 }
 
 /// The same with metal: net 1 goes straight up and lays three rows high.
 #[test]
 fn other_metal_stops_the_count_at_either_end() {
-    let check_beside = |from, other, cost, layer_1: &[u16], added: u64| {
-        let job = tower(8, 3, &[&through(other, other), &through(from, from + 1)]);
-        let records = [
-            join(vertex(0, other, 0), &[Up, Up], 7),
-            join(vertex(0, from, 0), &[Up, High, Up], cost),
-        ];
-        let penalties = u64::from(added == 0);
-        check(
-            &job,
-            &records,
-            layer_1,
-            totals(cost + 7, added + 3, penalties, 2),
-        );
+    let check_beside = |from, other, cost, layer_1: &[u16], laid| {
+        let nets = [through(other, other), through(from, from + 1)];
+        let joins: [(&[Move], u64); 2] = [(&[Up, Up], 7), (&[Up, High, Up], cost)];
+        check_two(nets, joins, layer_1, laid);
     };
-    check_beside(0, 4, 7, &[2, 2, 2, 2, 1, 1, 1, 1], 2);
-    check_beside(0, 3, 55, &[2, 2, 0, 1, 1, 1, 1, 0], 0);
-    check_beside(6, 0, 7, &[1, 1, 1, 1, 2, 2, 2, 2], 2);
-    check_beside(6, 1, 55, &[0, 1, 1, 1, 1, 0, 2, 2], 0);
+    check_beside(0, 4, 7, &[2, 2, 2, 2, 1, 1, 1, 1], (5, 0));
+    check_beside(0, 3, 55, &[2, 2, 0, 1, 1, 1, 1, 0], (3, 1));
+    check_beside(6, 0, 7, &[1, 1, 1, 1, 2, 2, 2, 2], (5, 0));
+    check_beside(6, 1, 55, &[0, 1, 1, 1, 1, 0, 2, 2], (3, 1));
 }
 
 /// What lies beyond an obstacle is not counted, and the other end is.

@@ -17,23 +17,9 @@ from maizetext.plan import Join, pack_plan
 from maizetext.replay import replay
 from maizetext.text_reading import read_text
 from marked import RECORDS, job_bytes, plan_bytes
-from tracks import ONE_STEP_UP, on_track, track
+from tracks import ONE_STEP_UP, VIA, WIRE, on_track, track, track_of
 
 SVG = "{http://www.w3.org/2000/svg}"
-
-FRESH = """\
-edition 1
-grid layers 3 rows 4 columns 1 direction column
-guide 10
-short 20
-layer wire 1 via 2 min 3 area 50
-layer wire 1 via 2 min 3 area 50
-layer wire 1 via 0 min 3 area 50
-net
-  pin 0 2 0
-  pin 2 2 0
-"""
-"""Two vias, one above the other, with one vertex high of them and two low."""
 
 
 def marks(picture: str) -> Counter:
@@ -85,10 +71,10 @@ class Pictures(unittest.TestCase):
         self.assertEqual(extensions(read_job(job_bytes("H")), RECORDS["H"]), [(Vertex(1, 3, 3), Vertex(1, 1, 3))])
 
     def test_an_extension_of_a_fresh_segment_goes_both_ways(self):
-        job = read_text(FRESH, "fresh")
-        self.assertEqual(extensions(job, [Join(Vertex(0, 2, 0), (UP, UP), 7)]), [
-            (Vertex(1, 2, 0), Vertex(1, 3, 0)), (Vertex(1, 2, 0), Vertex(1, 0, 0))
-        ])
+        pins = (Vertex(0, 7, 0), Vertex(2, 7, 0))
+        straight_up = Join(pins[0], (UP, UP), VIA + VIA + 4 * WIRE)
+        only, highest, lowest = on_track(7, 8, 4)
+        self.assertEqual(extensions(track_of([pins], ()), [straight_up]), [(only, highest), (only, lowest)])
 
     def test_open_pins_are_hollow(self):
         found = marks(picture_of("L"))

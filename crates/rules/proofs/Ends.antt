@@ -41,7 +41,7 @@ endToward d zero = d
 endToward d (suc which) = opposite d
 
 -- the other direction, as the code holds it
-pub opposite-is : (d : DirectionEnum) → directionOf (oppositeTo d) ≡ opposite (directionOf d)
+opposite-is : (d : DirectionEnum) → directionOf (oppositeTo d) ≡ opposite (directionOf d)
 unfolding directionOf oppositeTo opposite
 opposite-is Low = refl
 opposite-is High = refl

@@ -17,10 +17,10 @@ use Rattle.rules.proofs.end.starting_end.Statement.{statement}
 use Rattle.rules.proofs.end.starting_end.Tie as tie
 
 -- how far the first vertex lies back, by what the code computes
-pub record Way (track : Track) (v steps : ℕ) (back : Direction) : Type 0 where
-  pub vertex : v < 524288
-  pub near : steps * track .stride < 524288
-  pub within : directionOf back ≡ low → steps * track .stride ≤ v
+record Way (track : Track) (v steps : ℕ) (back : Direction) : Type 0 where
+  vertex : v < 524288
+  near : steps * track .stride < 524288
+  within : directionOf back ≡ low → steps * track .stride ≤ v
 
 way : (toward : Direction) (n : ℕ) {track : Track} {v room steps : ℕ} {back : Direction}
     → ((grid : GridStruct) × OnGrid grid v × (track ≡ trackOf (gridOf grid) (vertexBy (gridOf grid) v)))
