@@ -1,7 +1,7 @@
 -- What the code's overheads mean.
---     short-told      what is owed by a layer line as the code has read it
---     short-pays      not as many are clear as are missing: the area penalty
---     short-lays      as many are clear: the extension
+--     Owing, short-told    a segment that owes, and what, by a layer line as the code has read it
+--     short-pays           not as many are clear as are missing: the area penalty
+--     short-lays           as many are clear: the extension
 use Prim.Native.Nat.{ℕ, _-_, _*_, _≤_, _<_}
 use mathlib.Core.Path.{_≡_, refl, sym, ap, _∙_}
 use mathlib.Core.List.{List}
@@ -13,9 +13,9 @@ use Rattle.job.specs.Job.{Layer}
 use Rattle.job.specs.Structs.{layerStruct}
 use Rattle.job.specs.declared.groups.Layer.{Layer as LayerStruct}
 use Rattle.rules.specs.Views.{View}
-use Rattle.rules.specs.Segments.{Direction, Segment, Place}
+use Rattle.rules.specs.Segments.{Direction, Segment, fresh, running, paid, paidToward, Place}
 use Rattle.rules.specs.Prices.{Tech, lineOf}
-use Rattle.rules.specs.Overheads.{clearRun, firstOf, bothEnds, Overhead, owes, otherwise, lengthenedBy, tooShort}
+use Rattle.rules.specs.Overheads.{clearRun, firstOf, bothEnds, Overhead, owes, otherwise, lengthenedBy, tooShort, overheadOf}
 use Rattle.rules.specs.Structs.{headingOf, stepsOf, lineRecord, laidBy, Whole, overheadBy, FewMissing, WholeOverhead, IsOverhead}
 use Rattle.rules.specs.declared.overhead.Extension.{Extension}
 use Rattle.rules.specs.declared.overhead.Overhead.{Overhead as OverheadEnum}
@@ -37,12 +37,23 @@ clear-some : (line : Layer) (missing : ℕ) (run : List ℕ) → (length run ≡
 unfolding lengthenedBy
 clear-some line missing run ne = rw (ne-eqb (length run) missing ne) refl
 
--- what is owed by a layer line as the code has read it
-pub short-told : (t : Tech) (view : View) (v : ℕ) {p : Place} {line : LayerStruct} (d : Direction) (n : ℕ) {r : OverheadEnum}
-    → line ≡ layerStruct (lineOf t v)
-    → IsOverhead (line .wire) (line .area) (t .grid) view p r (tooShort (t .grid) (lineRecord line) view v d n)
-    → IsOverhead (lineOf t v .wire) (lineOf t v .area) (t .grid) view p r (tooShort (t .grid) (lineOf t v) view v d n)
-short-told t view v d n is told = rw is at told
+-- a segment that owes: one that is not paid
+unfoldable pub Owing : Segment → Type 0
+Owing fresh = Unit
+Owing (running d n) = Unit
+Owing paid = ⊥
+Owing (paidToward d) = ⊥
+
+-- what a segment owes, by a layer line as the code has read it
+pub short-told : (t : Tech) (view : View) (v : ℕ) (s : Segment) {line : LayerStruct} {r : OverheadEnum} → Owing s → line ≡ layerStruct (lineOf t v)
+    → IsOverhead (line .wire) (line .area) (t .grid) view (record { vertex = v; segment = s }) r
+    (tooShort (t .grid) (lineRecord line) view v (headingOf s) (stepsOf s))
+    → IsOverhead (lineOf t v .wire) (lineOf t v .area) (t .grid) view (record { vertex = v; segment = s }) r (overheadOf t view v s)
+unfolding Owing headingOf stepsOf overheadOf
+short-told t view v fresh owing is told = rw is at told
+short-told t view v (running d n) owing is told = rw is at told
+short-told t view v paid owing is told = absurd owing
+short-told t view v (paidToward d) owing is told = absurd owing
 
 module _ (g : Grid) (line : LayerStruct) (view : View) (v : ℕ) (s : Segment) {d : Direction} {n missing : ℕ} (heading : headingOf s ≡ d)
     (steps : stepsOf s ≡ n) (is : missing ≡ line .least - n) where
@@ -60,17 +71,17 @@ module _ (g : Grid) (line : LayerStruct) (view : View) (v : ℕ) (s : Segment) {
 
   -- what is owed
   abbrev Owes : OverheadEnum → Type 0
-  Owes r = IsOverhead (line .wire) (line .area) g view place r (tooShort g (lineRecord line) view v d n)
+  Owes r = IsOverhead (line .wire) (line .area) g view place r (tooShort g (lineRecord line) view v (headingOf s) (stepsOf s))
 
-  by-ends : tooShort g (lineRecord line) view v d n ≡ lengthenedBy (lineRecord line) missing laid
+  by-ends : tooShort g (lineRecord line) view v (headingOf s) (stepsOf s) ≡ lengthenedBy (lineRecord line) missing laid
   unfolding tooShort
-  by-ends = rw is refl
+  by-ends = rw (heading, steps, is) refl
 
   -- not as many are clear as are missing
   pub short-pays : {r : OverheadEnum} → so-many 2 < missing → IsOverhead (line .wire) (line .area) g view place r (otherwise (line .area)) → Owes r
-  short-pays less paid =
+  short-pays less area =
       let count = ends-count g view d missing n v in
-      owed-as paid (sym (by-ends ∙ clear-some (lineRecord line) missing laid (λ e. omega (arith, e, count, less))))
+      owed-as area (sym (by-ends ∙ clear-some (lineRecord line) missing laid (λ e. omega (arith, e, count, less))))
 
   -- the extension by the counts at the two ends
   abbrev counted : Extension

@@ -5,17 +5,17 @@ ghost use Rattle.job.specs.Grid.{vertices};
 ghost use Rattle.job.specs.Structs.{Sized, gridOf, vertexOf};
 ghost use Rattle.rules.specs.Tracks.{vertexBy};
 ghost use Rattle.rules.specs.Prices.{lineOf};
-ghost use Rattle.rules.specs.Segments.{Segment as SegmentRecord};
 ghost use Rattle.rules.specs.Overheads.{otherwise, tooShort, overheadOf};
 ghost use Rattle.rules.specs.Seen.{viewBy};
-ghost use Rattle.rules.specs.Structs.{OnGrid, trackOf, directionOf, segmentOf, headingOf, stepsOf, lineRecord, techBy, seenBy, costOf, noExtension, FewMissing, IsOverhead, IsOverheadAnywhere, overheadCost, Here};
+ghost use Rattle.rules.specs.Structs.{OnGrid, trackOf, segmentOf, headingOf, stepsOf, lineRecord, techBy, seenBy, costOf, noExtension, FewMissing, IsOverhead, IsOverheadAnywhere, overheadCost, Here};
 ghost use Rattle.job.specs.declared.grid.Grid.{Grid as GridStruct};
 ghost use Rattle.rules.specs.declared.price.Tech.{Tech as TechStruct};
 use crate::end::end_on;
 use crate::price::line_at;
 use crate::seen::clear;
-use crate::segment::Direction;
 use crate::segment::Segment;
+use crate::segment::heading_of;
+use crate::segment::steps_of;
 use crate::track::Track;
 use crate::track::next_toward;
 use bits::part::least;
@@ -67,22 +67,17 @@ fn missing_of(least: usize, length: usize) -> usize
 
 // An extension of as many clear vertices as are missing, at the leaving end first and the rest at the
 // starting end, or the area penalty. The first vertex that isn't clear stops the count of its own end.
-fn too_short(
-    track: Track,
-    line: Layer,
-    seen: &[u8; 16384],
-    v: usize,
-    toward: Direction,
-    length: usize,
-) -> Overhead
+fn too_short(track: Track, line: Layer, seen: &[u8; 16384], v: usize, segment: Segment) -> Overhead
     requires { ⌜ ((grid : GridStruct) × (Sized grid) × (v < vertices (gridOf grid)) × (track ≡ trackOf (gridOf grid) (vertexBy (gridOf grid) v)))
         × (line .least < 16) ⌝ }
-    ensures { λ r. ⌜ ((grid : GridStruct) (s : SegmentRecord) → OnGrid grid v → track ≡ trackOf (gridOf grid) (vertexBy (gridOf grid) v)
-        → headingOf s ≡ directionOf toward → stepsOf s ≡ length
+    ensures { λ r. ⌜ ((grid : GridStruct) → OnGrid grid v → track ≡ trackOf (gridOf grid) (vertexBy (gridOf grid) v)
         → (let view = viewBy (gridOf grid) (now (seen .entry)) in
+        let s = segmentOf segment in
         IsOverhead (line .wire) (line .area) (gridOf grid) view (record { vertex = v; segment = s }) r
-        (tooShort (gridOf grid) (lineRecord line) view v (directionOf toward) length))) ⌝ }
+        (tooShort (gridOf grid) (lineRecord line) view v (headingOf s) (stepsOf s)))) ⌝ }
 {
+    let toward = heading_of(segment);
+    let length = steps_of(segment);
     let missing = missing_of(line.least, length);
     let mut laid = 0;
     let mut leaving = 0;
@@ -112,7 +107,7 @@ fn too_short(
     )
 }
 
-// A fresh segment takes high, then low: it goes high with no length. A paid segment owes nothing.
+// A paid segment owes nothing.
 pub fn overhead_of(
     track: Track,
     prices: &[usize; 48],
@@ -130,8 +125,8 @@ pub fn overhead_of(
 {
     let line = line_at(prices, from.layer);
     match segment {
-        Segment::Fresh => too_short(track, line, seen, v, Direction::High, 0),
-        Segment::Running(toward, length) => too_short(track, line, seen, v, toward, length),
+        Segment::Fresh => too_short(track, line, seen, v, segment),
+        Segment::Running(_toward, _length) => too_short(track, line, seen, v, segment),
         Segment::Paid => Overhead::Nothing,
         Segment::PaidToward(_toward) => Overhead::Nothing,
     }

@@ -9,15 +9,15 @@ use Rattle.job.specs.declared.groups.Layer.{Layer}
 use Rattle.job.specs.declared.grid.Vertex.{Vertex as VertexStruct}
 use Rattle.rules.specs.Tracks.{vertexBy}
 use Rattle.rules.specs.Prices.{lineOf}
-use Rattle.rules.specs.Segments.{fresh, running}
+use Rattle.rules.specs.Segments.{running}
 use Rattle.rules.specs.Overheads.{overheadOf}
-use Rattle.rules.specs.Structs.{OnGrid, trackOf, directionOf, segmentOf, headingOf, stepsOf, techBy, overheadBy, FewMissing, WholeOverhead, Here}
+use Rattle.rules.specs.Structs.{OnGrid, trackOf, segmentOf, techBy, overheadBy, FewMissing, WholeOverhead, Here}
 use Rattle.rules.specs.declared.track.Track.{Track}
 use Rattle.rules.specs.declared.price.Tech.{Tech as TechStruct}
 use Rattle.rules.proofs.Fitting.{layer-known}
 use Rattle.rules.proofs.Held.{line-fits}
 use Rattle.rules.proofs.PriceLists.{line-told}
-use Rattle.rules.proofs.Owed.{short-told}
+use Rattle.rules.proofs.Owed.{Owing, short-told}
 use Rattle.rules.proofs.overhead.overhead_of.Statement.{statement}
 use Rattle.rules.proofs.overhead.overhead_of.Tie as tie
 
@@ -61,16 +61,17 @@ enum-known-segment-2 : tie.Need-enum-known-segment-2
 enum-known-segment-2 c = search needs
 
 returns : tie.Need-returns
-unfolding segmentOf overheadOf directionOf headingOf stepsOf techBy
+unfolding segmentOf techBy Owing
 returns c tech here is =
-    rw (c .before .enum-told .given .1)
-    (short-told (techBy tech) _ _ _ _ (c .before .before .before .line-at .ensures ∙ line-told here) (c .too-short .ensures (tech .grid) fresh (here-on here) (on-track here is) refl refl))
+    short-told (techBy tech) _ _ _ (rw (c .before .enum-told .given .1) tt) (c .before .before .before .line-at .ensures ∙ line-told here)
+    (c .too-short .ensures (tech .grid) (here-on here) (on-track here is))
 
 returns-2 : tie.Need-returns-2
-unfolding segmentOf overheadOf headingOf stepsOf techBy
+unfolding segmentOf techBy Owing
 returns-2 c tech here is =
     rw (c .before .before .segment .given .1)
-    (short-told (techBy tech) _ _ _ _ (c .before .before .before .before .line-at .ensures ∙ line-told here) (c .too-short2 .ensures (tech .grid) (running _ _) (here-on here) (on-track here is) refl refl))
+    (short-told (techBy tech) _ _ (running _ _) tt (c .before .before .before .before .line-at .ensures ∙ line-told here)
+    (c .too-short2 .ensures (tech .grid) (here-on here) (on-track here is)))
 
 returns-3 : tie.Need-returns-3
 unfolding segmentOf overheadOf overheadBy FewMissing WholeOverhead

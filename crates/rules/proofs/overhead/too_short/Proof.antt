@@ -53,6 +53,12 @@ count-within most room h e f = omega (arith, h, e, f)
 count-past : (most room : ℕ) {count end beyond : ℕ} → end ≤ count → end ≡ min most room → room ≡ beyond → min most beyond ≤ count
 count-past most room h e f = omega (arith, h, e, f)
 
+heading-of-requires : tie.Need-heading-of-requires Inv-loop μ-loop Inv-ends μ-ends
+heading-of-requires c κs = search needs
+
+steps-of-requires : tie.Need-steps-of-requires Inv-loop μ-loop Inv-ends μ-ends
+steps-of-requires c κs = search needs
+
 missing-of-requires : tie.Need-missing-of-requires Inv-loop μ-loop Inv-ends μ-ends
 missing-of-requires c κs = search needs
 
@@ -61,12 +67,12 @@ ends-holds c g from on r = counted-begun _ _ _ _ _ _
 
 end-on-requires : tie.Need-end-on-requires Inv-loop μ-loop Inv-ends μ-ends
 end-on-requires c κs =
-    let (grid, sized, there, is) = c .before .before .before .pre .0 in
+    let (grid, sized, there, is) = c .before .before .before .before .before .pre .0 in
     (grid, on-grid sized there, is)
 
 sub-least : tie.Need-sub-least Inv-loop μ-loop Inv-ends μ-ends
 sub-least c =
-    let (grid, sized, there, is) = c .before .before .before .before .pre .0 in
+    let (grid, sized, there, is) = c .before .before .before .before .before .before .pre .0 in
     let r = track-known (on-grid sized there) is in
     omega (arith, counted-within _ _ _ _ _ _ (c .before .before .ends .inv grid _ there r) there)
 
@@ -82,7 +88,7 @@ loop-holds c = (
 
 next-toward-requires : tie.Need-next-toward-requires Inv-loop μ-loop Inv-ends μ-ends
 next-toward-requires c κs =
-    let (grid, sized, there, is) = c .before .before .before .before .before .before .before .pre .0 in
+    let (grid, sized, there, is) = c .before .before .before .before .before .before .before .before .before .pre .0 in
     let r = track-known (on-grid sized there) is in
     let so-far = c .before .loop .inv .2 grid _ there r in
     let end = end-told _ _ _ (c .before .before .before .end-on .ensures) there r in
@@ -92,7 +98,7 @@ next-toward-requires c κs =
 
 clear-requires : tie.Need-clear-requires Inv-loop μ-loop Inv-ends μ-ends
 clear-requires c κs =
-    let (grid, sized, there, is) = c .before .before .before .before .before .before .before .before .pre .0 in
+    let (grid, sized, there, is) = c .before .before .before .before .before .before .before .before .before .before .pre .0 in
     let r = track-known (on-grid sized there) is in
     let so-far = c .before .before .loop .inv .2 grid _ there r in
     let end = end-told _ _ _ (c .before .before .before .before .end-on .ensures) there r in
@@ -157,25 +163,25 @@ otherwise-requires : tie.Need-otherwise-requires Inv-loop μ-loop Inv-ends μ-en
 otherwise-requires c κs = search needs
 
 returns : tie.Need-returns Inv-loop μ-loop Inv-ends μ-ends
-returns c g s on is heading steps =
+returns c g on is =
     let (first, all, order) = counted-done _ _ _ _ _ _ (c .before .before .before .ends .inv g _ (on .there) (track-known on is)) (c .before .before .ends-test .left) in
-    short-pays _ _ _ _ s heading steps (c .before .before .before .before .missing-of .ensures) (rw all at (c .before .if2 .taken)) (c .otherwise .ensures _ _ _ _)
+    short-pays _ _ _ _ _ (sym (c .before .before .before .before .before .before .heading-of .ensures)) (sym (c .before .before .before .before .before .steps-of .ensures)) (c .before .before .before .before .missing-of .ensures) (rw all at (c .before .if2 .taken)) (c .otherwise .ensures _ _ _ _)
 
-sub-t21 : tie.Need-sub-t21 Inv-loop μ-loop Inv-ends μ-ends
-sub-t21 c =
-    let (grid, sized, there, is) = c .before .before .before .before .pre .0 in
+sub-t22 : tie.Need-sub-t22 Inv-loop μ-loop Inv-ends μ-ends
+sub-t22 c =
+    let (grid, sized, there, is) = c .before .before .before .before .before .before .pre .0 in
     let r = track-known (on-grid sized there) is in
     let (first, all, order) = counted-done _ _ _ _ _ _ (c .before .before .ends .inv grid _ there r) (c .before .ends-test .left) in
     order
 
 returns-2 : tie.Need-returns-2 Inv-loop μ-loop Inv-ends μ-ends
-returns-2 c g s on is heading steps =
+returns-2 c g on is =
     let (first, all, order) = counted-done _ _ _ _ _ _ (c .before .before .ends .inv g _ (on .there) (track-known on is)) (c .before .ends-test .left) in
     let missing = c .before .before .before .missing-of .ensures in
-    rw (first, all) (short-lays _ _ _ _ s heading steps missing (on .there) (rw all at (c .if2 .left)) (omega (arith, missing, c .before .before .before .before .pre .1)))
+    rw (first, all) (short-lays _ _ _ _ _ (sym (c .before .before .before .before .before .heading-of .ensures)) (sym (c .before .before .before .before .steps-of .ensures)) missing (on .there) (rw all at (c .if2 .left)) (omega (arith, missing, c .before .before .before .before .before .before .pre .1)))
 
 pub too-short-spec : {M : Type 1} → statement M
 too-short-spec =
-    tie.close (tie.spec Inv-loop μ-loop Inv-ends μ-ends missing-of-requires ends-holds end-on-requires sub-least least-requires loop-holds
+    tie.close (tie.spec Inv-loop μ-loop Inv-ends μ-ends heading-of-requires steps-of-requires missing-of-requires ends-holds end-on-requires sub-least least-requires loop-holds
     next-toward-requires clear-requires add-which ends-less ends-again add-laid add--count loop-less loop-again add-which-2 ends-less-2 ends-again-2
-    otherwise-requires returns sub-t21 returns-2)
+    otherwise-requires returns sub-t22 returns-2)
