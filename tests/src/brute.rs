@@ -59,6 +59,7 @@ impl<'a> Brute<'a> {
         self.net = net;
         self.tree = pins.next().into_iter().collect();
         self.unjoined = pins.collect();
+        self.count_if_joined();
     }
 
     pub fn all_joined(&self) -> bool {
@@ -118,9 +119,13 @@ impl<'a> Brute<'a> {
         assert_eq!(judged.cost, join.cost, "a join at its cost");
         assert!(self.unjoined.remove(&judged.last()), "a join ends at a pin");
         self.lay(&judged);
-        if self.all_joined() {
-            self.totals.joined += 1;
-        }
+        self.count_if_joined();
+    }
+
+    /// "Nets fully joined": each once, when no pin of it is unjoined any more, or as it begins if
+    /// it has one pin.
+    fn count_if_joined(&mut self) {
+        self.totals.joined += u64::from(self.all_joined());
     }
 
     fn lay(&mut self, judged: &Judged) {

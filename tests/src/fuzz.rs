@@ -58,7 +58,7 @@ impl Fuzz {
         let mut ask = |kind, job: &[u8]| self.sizing.ask_of(guarded::sizing, kind, job);
         let good = job.pack();
         ask("good", &good);
-        for number in 2..=11 {
+        for number in aimed::RULES {
             if let Some(bad) = aimed::aimed(number, job, random) {
                 ask("one rule broken", &bad.bytes);
             }

@@ -13,6 +13,9 @@ use crate::grid::{vertex, Grid, Vertex, MOST_COLUMNS, MOST_LAYERS, MOST_ROWS, MO
 use crate::job::{GuideBox, Job, Layer, Net, Obstacle, CLOSED, MOST_BOXES, MOST_PINS};
 use crate::random::Random;
 
+/// One net in so many has one pin.
+const ONE_PIN_EVERY: u32 = 6;
+
 pub fn good_job(random: &mut Random) -> Job {
     let grid = grid(random);
     let obstacles = obstacles(&grid, random);
@@ -145,9 +148,14 @@ fn some_nets(
     random: &mut Random,
 ) -> Vec<Net> {
     let mut nets = Vec::new();
-    while nets.len() < count as usize && free.len() >= 2 {
+    while nets.len() < count as usize && !free.is_empty() {
         let most = free.len().min(most_pins) as u32;
-        let pins = (0..random.edgy(2, most)).map(|_| free.swap_remove(random.index(free.len())));
+        let pins = if most == 1 || random.one_in(ONE_PIN_EVERY) {
+            1
+        } else {
+            random.edgy(2, most)
+        };
+        let pins = (0..pins).map(|_| free.swap_remove(random.index(free.len())));
         let pins = pins.collect();
         let boxes = boxes(grid, random);
         nets.push(Net { pins, boxes });
@@ -221,13 +229,16 @@ mod tests {
         let mut random = Random::new(8);
         let jobs: Vec<Job> = (0..JOBS).map(|_| good_job(&mut random)).collect();
         let nets: Vec<&Net> = jobs.iter().flat_map(|job| &job.nets).collect();
-        for pins in 2..=MOST_PINS {
+        for pins in 1..=MOST_PINS {
             assert!(nets.iter().any(|net| net.pins.len() == pins));
         }
         for boxes in 0..=MOST_BOXES {
             assert!(nets.iter().any(|net| net.boxes.len() == boxes));
         }
         assert_some(&jobs, "no nets", |job| job.nets.is_empty());
+        assert_some(&jobs, "nets of one pin alone", |job| {
+            job.nets.len() > 1 && job.nets.iter().all(|net| net.pins.len() == 1)
+        });
         assert_some(&jobs, "many nets", |job| job.nets.len() > 200);
         assert_some(&jobs, "no obstacles", |job| job.obstacles.is_empty());
         assert_some(&jobs, "overlapping obstacles", two_obstacles_overlap);

@@ -16,7 +16,7 @@ pub struct Vertex {
 }
 
 /// A vertex, in the order that the specification writes it.
-pub fn vertex(layer: u32, row: u32, column: u32) -> Vertex {
+pub const fn vertex(layer: u32, row: u32, column: u32) -> Vertex {
     Vertex { layer, row, column }
 }
 

@@ -19,6 +19,18 @@ pub struct Totals {
     pub joined: u64,
 }
 
+impl Totals {
+    /// In the order of the specification.
+    pub const fn of(cost: u64, added: u64, penalties: u64, joined: u64) -> Self {
+        Totals {
+            cost,
+            added,
+            penalties,
+            joined,
+        }
+    }
+}
+
 /// How a job ends.
 #[derive(Clone, Debug, PartialEq, Eq)]
 pub struct Joined {

@@ -223,7 +223,7 @@ impl Lent {
     /// 1 to 11, one rule broken after another, and damage without an aim. The job
     /// comes before the slices, which are often short here.
     pub fn ask_bad(&mut self, good: &Job, exact: &Case) {
-        for number in 2..=11 {
+        for number in aimed::RULES {
             if let Some(bad) = aimed::aimed(number, good, &mut self.random) {
                 let place = bad.refusal.place as usize;
                 let case = self.any_lengths("one rule broken", &bad.bytes, exact);

@@ -72,6 +72,7 @@ impl Pairs {
             work: board.work_need(),
         };
         let cheapest = route(&board);
+        self.seen.job(job);
         self.seen.routed(&board, &cheapest);
         self.ask_legal("cheapest joins", &sized, &cheapest);
         let wandering = wandering_plan(&board, &mut self.random);
@@ -184,7 +185,7 @@ impl Pairs {
     /// 2 to 11: the job comes before the slices and before the plan.
     fn ask_bad_jobs(&mut self, good: &Job, sized: &Sized, plan: &[u8]) {
         for _ in 0..2 {
-            let number = u64::from(self.random.between(2, 11));
+            let number = *self.random.pick(&aimed::RULES);
             let Some(bad) = aimed::aimed(number, good, &mut self.random) else {
                 continue;
             };

@@ -25,7 +25,7 @@ impl Job {
         self.layer_place(self.layers.len()) + OBSTACLE * obstacle as u64
     }
 
-    pub fn net_place(&self, net: usize) -> u64 {
+    fn net_place(&self, net: usize) -> u64 {
         let before = &self.nets[..net];
         self.obstacle_place(self.obstacles.len()) + before.iter().map(net_bits).sum::<u64>()
     }

@@ -28,6 +28,16 @@ pub struct Join {
     pub cost: u64,
 }
 
+impl Join {
+    pub fn of(start: Vertex, moves: &[Move], cost: u64) -> Self {
+        Join {
+            start,
+            moves: moves.to_vec(),
+            cost,
+        }
+    }
+}
+
 /// "A record is bit 1 with its fields, or bit 0."
 #[derive(Clone, Debug, PartialEq, Eq)]
 pub enum Record {

@@ -11,6 +11,9 @@ use crate::job::{GuideBox, Job, Layer, Net, Obstacle, EDITION};
 /// Bytes that a job may have at most.
 pub const MOST_BYTES: usize = 262_144;
 
+/// "Number 7 is retired."
+pub const RETIRED: usize = 7;
+
 /// A refusal from 1 to 11 and the bit position that it names.
 #[derive(Clone, Copy, Debug, PartialEq, Eq)]
 pub struct Refusal {
@@ -157,12 +160,9 @@ fn read_obstacle(bits: &mut BitReader, occupied: &mut Occupied) -> Result<Obstac
 }
 
 fn read_net(bits: &mut BitReader, occupied: &mut Occupied) -> Result<Net, Refusal> {
-    let place = whole(bits, 8)?;
+    whole(bits, 8)?;
     let pins = bits.take(4) + 1;
     let boxes = bits.take(4);
-    if pins == 1 {
-        return refuse(7, place);
-    }
     let mut net = Net {
         pins: Vec::new(),
         boxes: Vec::new(),

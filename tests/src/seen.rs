@@ -42,10 +42,19 @@ impl Seen {
         self.note(closed(guide, short, area), 1);
         self.note("job: with obstacles", u64::from(!job.obstacles.is_empty()));
         self.note("job: several nets", u64::from(job.nets.len() > 1));
-        for net in &job.nets {
+        for (index, net) in job.nets.iter().enumerate() {
             self.note(pins(net.pins.len()), 1);
             self.note("net: with boxes", u64::from(!net.boxes.is_empty()));
+            if net.pins.len() == 1 {
+                self.note(one_pin(index, job.nets.len()), 1);
+                self.note(ONE_PIN_WITH_BOXES, u64::from(!net.boxes.is_empty()));
+            }
         }
+        let one_pin_each = job.nets.iter().all(|net| net.pins.len() == 1);
+        self.note(
+            ONE_PIN_EACH,
+            u64::from(!job.nets.is_empty() && one_pin_each),
+        );
     }
 
     /// What a routed job has of note.
@@ -73,6 +82,13 @@ impl Seen {
         LAID.iter().for_each(|what| self.assert_often(what, least));
     }
 
+    /// Fails where a kind of net of one pin came up less often than this.
+    pub fn assert_one_pin(&self, least: u64) {
+        let more = [ONE_PIN_WITH_BOXES, ONE_PIN_EACH];
+        let kinds = ONE_PIN.iter().chain(&more);
+        kinds.for_each(|what| self.assert_often(what, least));
+    }
+
     /// Fails where a kind of job that routing must be tried on came up less often
     /// than this: each number of layers and of pins, each longest M, both directions,
     /// and each penalty open and closed beside every other.
@@ -80,7 +96,7 @@ impl Seen {
         (1..=8).for_each(|count| self.assert_often(&layers(count), least));
         (0..=1).for_each(|number| self.assert_often(&direction(number), least));
         (1..=15).for_each(|length| self.assert_often(&longest(length), least));
-        (2..=16).for_each(|count| self.assert_often(&pins(count), least));
+        (1..=16).for_each(|count| self.assert_often(&pins(count), least));
         for (guide, short, area) in (0..8).map(|n| (n & 1 == 0, n & 2 == 0, n & 4 == 0)) {
             self.assert_often(&closed(guide, short, area), least);
         }
@@ -95,6 +111,27 @@ impl Seen {
         ];
         more.iter().for_each(|what| self.assert_often(what, least));
         self.assert_extensions(least);
+        self.assert_one_pin(least);
+    }
+}
+
+/// Where a net of one pin stands among the nets of its job.
+const ONE_PIN: [&str; 4] = [
+    "one pin: the only net",
+    "one pin: the first net of several",
+    "one pin: the last net of several",
+    "one pin: a net between others",
+];
+
+const ONE_PIN_WITH_BOXES: &str = "one pin: with boxes";
+const ONE_PIN_EACH: &str = "one pin: every net of the job";
+
+fn one_pin(index: usize, nets: usize) -> &'static str {
+    match (index == 0, index + 1 == nets) {
+        (true, true) => ONE_PIN[0],
+        (true, false) => ONE_PIN[1],
+        (false, true) => ONE_PIN[2],
+        (false, false) => ONE_PIN[3],
     }
 }
 

@@ -5,11 +5,11 @@
 //! and layer 1 a track of all rows, so a net from layer 0 to layer 2 goes up, along the rows
 //! and up. Wires cost 1 and vias 2, a penalised segment 50, and a short 20.
 
-use maizespell_tests::compare::replay::{Case, Comparison};
+use maizespell_tests::compare::replay;
 use maizespell_tests::grid::{vertex, Vertex};
 use maizespell_tests::job::{GuideBox, Job, Obstacle, CLOSED};
 use maizespell_tests::joining::Totals;
-use maizespell_tests::library::{ReplayResult, REPLAY, ROUTING};
+use maizespell_tests::library::{ReplayResult, ROUTING};
 use maizespell_tests::marked::{plain, plain_layers};
 use maizespell_tests::plan::{pack, Join, Record};
 use maizespell_tests::reader::Refusal;
@@ -41,20 +41,7 @@ fn pin_at(row: u32) -> [Vertex; 2] {
 }
 
 fn join(start: Vertex, moves: &[Move], cost: u64) -> Record {
-    Record::Join(Join {
-        start,
-        moves: moves.to_vec(),
-        cost,
-    })
-}
-
-fn totals(cost: u64, added: u64, penalties: u64, joined: u64) -> Totals {
-    Totals {
-        cost,
-        added,
-        penalties,
-        joined,
-    }
+    Record::Join(Join::of(start, moves, cost))
 }
 
 /// What the library answers to a plan, and the rows of layer 1 in its map; the second replay
@@ -62,16 +49,9 @@ fn totals(cost: u64, added: u64, penalties: u64, joined: u64) -> Totals {
 fn replayed(job: &Job, records: &[Record]) -> (ReplayResult, Vec<u16>) {
     let board = Board::new(job);
     let rows = job.rows as usize;
-    let mut comparison = Comparison::of(REPLAY);
-    let result = comparison.ask(&Case {
-        kind: "by hand",
-        job: &job.pack(),
-        plan: &pack(records),
-        map_len: board.vertices(),
-        work_len: board.work_need(),
-    });
-    comparison.tally.assert_same();
-    (result, comparison.expected_map()[rows..2 * rows].to_vec())
+    let (vertices, work) = (board.vertices(), board.work_need());
+    let (result, map) = replay::check(&job.pack(), &pack(records), vertices, work);
+    (result, map[rows..2 * rows].to_vec())
 }
 
 /// Routing makes these records, and both calls end with these rows of layer 1 and these totals.
@@ -89,32 +69,42 @@ fn check(job: &Job, records: &[Record], layer_1: &[u16], totals: Totals) {
 fn the_rest_is_laid_at_the_starting_end() {
     let job = tower(8, 6, &[&through(4, 6)]);
     let up = join(vertex(0, 4, 0), &[Up, High, High, Up], 10);
-    check(&job, &[up], &[0, 1, 1, 1, 1, 1, 1, 1], totals(10, 4, 0, 1));
+    check(
+        &job,
+        &[up],
+        &[0, 1, 1, 1, 1, 1, 1, 1],
+        Totals::of(10, 4, 0, 1),
+    );
     let job = tower(8, 6, &[&through(3, 1)]);
     let up = join(vertex(0, 3, 0), &[Up, Low, Low, Up], 10);
-    check(&job, &[up], &[1, 1, 1, 1, 1, 1, 1, 0], totals(10, 4, 0, 1));
+    check(
+        &job,
+        &[up],
+        &[1, 1, 1, 1, 1, 1, 1, 0],
+        Totals::of(10, 4, 0, 1),
+    );
 }
 
 #[test]
 fn all_is_laid_at_the_starting_end_where_the_leaving_end_has_no_room() {
     let job = tower(5, 3, &[&through(3, 4)]);
     let up = join(vertex(0, 3, 0), &[Up, High, Up], 7);
-    check(&job, &[up], &[0, 1, 1, 1, 1], totals(7, 2, 0, 1));
+    check(&job, &[up], &[0, 1, 1, 1, 1], Totals::of(7, 2, 0, 1));
     let job = tower(5, 3, &[&through(1, 0)]);
     let up = join(vertex(0, 1, 0), &[Up, Low, Up], 7);
-    check(&job, &[up], &[1, 1, 1, 1, 0], totals(7, 2, 0, 1));
+    check(&job, &[up], &[1, 1, 1, 1, 0], Totals::of(7, 2, 0, 1));
 }
 
 #[test]
 fn nothing_is_behind_a_segment_that_starts_at_the_end_of_its_track() {
     let up = |cost| join(vertex(0, 0, 0), &[Up, High, Up], cost);
     let job = tower(4, 3, &[&through(0, 1)]);
-    check(&job, &[up(7)], &[1, 1, 1, 1], totals(7, 2, 0, 1));
+    check(&job, &[up(7)], &[1, 1, 1, 1], Totals::of(7, 2, 0, 1));
     let job = tower(3, 3, &[&through(0, 1)]);
-    check(&job, &[up(55)], &[1, 1, 0], totals(55, 0, 1, 1));
+    check(&job, &[up(55)], &[1, 1, 0], Totals::of(55, 0, 1, 1));
     let job = tower(3, 3, &[&through(2, 1)]);
     let down = join(vertex(0, 2, 0), &[Up, Low, Up], 55);
-    check(&job, &[down], &[0, 1, 1], totals(55, 0, 1, 1));
+    check(&job, &[down], &[0, 1, 1], Totals::of(55, 0, 1, 1));
 }
 
 #[test]
@@ -122,7 +112,7 @@ fn a_fresh_segment_takes_high_then_low() {
     let check_at = |row, layer_1| {
         let up = join(vertex(0, row, 0), &[Up, Up], 7);
         let job = tower(6, 3, &[&through(row, row)]);
-        check(&job, &[up], layer_1, totals(7, 3, 0, 1));
+        check(&job, &[up], layer_1, Totals::of(7, 3, 0, 1));
     };
     check_at(1, &[0, 1, 1, 1, 1, 0]);
     check_at(3, &[0, 0, 1, 1, 1, 1]);
@@ -130,7 +120,7 @@ fn a_fresh_segment_takes_high_then_low() {
     check_at(5, &[0, 0, 1, 1, 1, 1]);
     let job = tower(3, 3, &[&through(1, 1)]);
     let up = join(vertex(0, 1, 0), &[Up, Up], 54);
-    check(&job, &[up], &[0, 1, 0], totals(54, 0, 1, 1));
+    check(&job, &[up], &[0, 1, 0], Totals::of(54, 0, 1, 1));
 }
 
 /// Two nets, each with one join from its first pin: moves and cost.
@@ -143,7 +133,7 @@ fn check_two(
     let job = tower(8, 3, &[&nets[0], &nets[1]]);
     let made = |net: usize| join(nets[net][0], joins[net].0, joins[net].1);
     let cost = joins[0].1 + joins[1].1;
-    let totals = totals(cost, added, penalties, 2);
+    let totals = Totals::of(cost, added, penalties, 2);
     check(&job, &[made(0), made(1)], layer_1, totals);
 }
 
@@ -186,7 +176,7 @@ fn each_end_stops_at_its_own_first_vertex_that_is_not_clear() {
         });
         let up = join(vertex(0, 4, 0), &[Up, High, Up], cost);
         let penalties = u64::from(added == 0);
-        check(&job, &[up], layer_1, totals(cost, added, penalties, 1));
+        check(&job, &[up], layer_1, Totals::of(cost, added, penalties, 1));
     };
     check_beside(7, 5, 9, &[0, 1, 1, 1, 1, 1, 1, 257, 0, 0], 4);
     check_beside(7, 6, 10, &[1, 1, 1, 1, 1, 1, 1, 257, 0, 0], 5);
@@ -212,7 +202,7 @@ fn an_own_pin_behind_is_clear_and_stays_unjoined() {
         join(vertex(0, 3, 0), &[Up, High, Up], 7),
         join(vertex(1, 3, 0), &[Low], 11),
     ];
-    check(&job, &records, &[0, 1, 1, 1, 1], totals(18, 2, 0, 1));
+    check(&job, &records, &[0, 1, 1, 1, 1], Totals::of(18, 2, 0, 1));
 }
 
 /// The third join owes two: row 0 is beyond its last vertex, and row 3, metal of its own net,
@@ -225,11 +215,11 @@ fn own_metal_behind_is_clear_unless_another_net_covers_it() {
     let low = |cost| join(pins[0], &[Up, Low, Up], cost);
     let alone = replayed(&job, &[Record::NoJoin, high(7), low(7)]);
     let layer_1 = vec![2, 2, 2, 2, 2, 2, 0];
-    assert_eq!(alone, (succeeded(totals(14, 4, 0, 1)), layer_1));
+    assert_eq!(alone, (succeeded(Totals::of(14, 4, 0, 1)), layer_1));
     let other = join(vertex(0, 6, 0), &[Up, Up], 7);
     let covered = replayed(&job, &[other, high(27), low(55)]);
     let layer_1 = vec![2, 2, 2, 256, 1, 1, 1];
-    assert_eq!(covered, (succeeded(totals(89, 5, 1, 2)), layer_1));
+    assert_eq!(covered, (succeeded(Totals::of(89, 5, 1, 2)), layer_1));
 }
 
 #[test]
@@ -242,12 +232,17 @@ fn a_closed_area_penalty_forbids_where_both_ends_are_too_short() {
         job
     };
     let up = join(vertex(0, 1, 0), &[Up, High, Up], 7);
-    check(&closed(4), &[up.clone()], &[1, 1, 1, 1], totals(7, 2, 0, 1));
+    check(
+        &closed(4),
+        &[up.clone()],
+        &[1, 1, 1, 1],
+        Totals::of(7, 2, 0, 1),
+    );
     check(
         &closed(3),
         &[Record::NoJoin],
         &[0, 0, 0],
-        totals(0, 0, 0, 0),
+        Totals::of(0, 0, 0, 0),
     );
     let third_move = Refusal {
         number: 17,

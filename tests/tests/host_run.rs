@@ -11,6 +11,7 @@ use std::process::{Command, Output};
 use maizespell_tests::built;
 use maizespell_tests::damage::aimed;
 use maizespell_tests::generate::routable::{routable_job, Size};
+use maizespell_tests::grid::vertex;
 use maizespell_tests::host::{crowded, most_plan_bytes, written};
 use maizespell_tests::job::Job;
 use maizespell_tests::library::ROUTING;
@@ -41,12 +42,13 @@ fn file(name: &str, bytes: &[u8]) -> PathBuf {
     path
 }
 
-/// The marked jobs, one without nets, one whose plan is longer than the host's guess,
-/// and generated ones.
+/// The marked jobs, one without nets, one with a net of one pin alone, one whose plan is longer
+/// than the host's guess, and generated ones.
 fn good_jobs() -> Vec<Job> {
     let mut random = Random::new(SEED);
     let mut jobs: Vec<Job> = marked::all().into_iter().map(|(_, job)| job).collect();
     jobs.push(marked::plain(&[]));
+    jobs.push(marked::plain(&[&[vertex(0, 0, 0)]]));
     jobs.push(crowded());
     jobs.extend((0..TINY_JOBS).map(|_| routable_job(Size::Tiny, &mut random)));
     jobs.extend((0..SMALL_JOBS).map(|_| routable_job(Size::Small, &mut random)));
@@ -85,7 +87,7 @@ fn check_refused(path: &Path, refusal: Refusal) {
 #[test]
 fn bad_jobs_get_their_refusals() {
     let mut random = Random::new(SEED);
-    for number in 2..=11 {
+    for number in aimed::RULES {
         let bad = good_jobs()
             .iter()
             .find_map(|job| aimed::aimed(number, job, &mut random))

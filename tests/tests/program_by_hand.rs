@@ -3,6 +3,7 @@
 
 use std::collections::BTreeMap;
 
+use maizespell_tests::damage::aimed;
 use maizespell_tests::marked;
 use maizespell_tests::program::{edges, generated, line};
 
@@ -29,6 +30,7 @@ fn edges_have_the_lines_found_by_hand() {
         ("no bytes", "refused 2 at 0\n"),
         ("one byte", "refused 2 at 0\n"),
         ("no nets", "\n"),
+        ("nets of one pin", "\n"),
         ("2 by 129 by 1", "too large\n"),
         ("2 by 3 by 43", "too large\n"),
         ("2 by 9 by 15", "too large\n"),
@@ -65,7 +67,7 @@ fn is_plan(line: &str) -> bool {
 #[test]
 fn every_rule_broken_past_the_limits_is_refused() {
     let lines = lines();
-    for number in 2..=11 {
+    for number in aimed::RULES {
         let line = &lines[&format!("large, rule {number} broken")];
         assert!(line.starts_with(&format!("refused {number} at ")), "{line}");
     }

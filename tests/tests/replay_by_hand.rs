@@ -1,14 +1,15 @@
 //! Replay of plans written by hand, each with its answer: every number from 12 on
 //! at every kind of place, and what is left in the slices.
 
-use maizespell_tests::compare::replay::{Case, Comparison};
+use maizespell_tests::compare::replay::check;
 use maizespell_tests::grid::{vertex, Vertex};
 use maizespell_tests::job::Job;
-use maizespell_tests::library::{ReplayResult, REPLAY};
+use maizespell_tests::joining::Totals;
+use maizespell_tests::library::ReplayResult;
 use maizespell_tests::marked;
 use maizespell_tests::plan::{pack, Join, Record};
 use maizespell_tests::reader::Refusal;
-use maizespell_tests::replay::refused;
+use maizespell_tests::replay::{refused, succeeded};
 use maizespell_tests::rules::moves::Move::{self, Down, High, Low, Up};
 
 /// A's plan, from the specification: flag at bit 0, start at 1, count at 20, moves at
@@ -17,24 +18,9 @@ const A: [u8; 11] = [
     0x80, 0x00, 0x00, 0x00, 0x03, 0x54, 0x00, 0x00, 0x00, 0x00, 0x0C,
 ];
 
-/// The answer to bytes that both replays must agree on, with slices of these
-/// lengths, and the map that is left.
-fn left(job: &[u8], plan: &[u8], map_len: usize, work_len: usize) -> (ReplayResult, Vec<u16>) {
-    let mut comparison = Comparison::of(REPLAY);
-    let result = comparison.ask(&Case {
-        kind: "by hand",
-        job,
-        plan,
-        map_len,
-        work_len,
-    });
-    comparison.tally.assert_same();
-    (result, comparison.expected_map().to_vec())
-}
-
 /// With slices that are long enough for every marked job.
 fn answer(job: &Job, plan: &[u8]) -> ReplayResult {
-    left(&job.pack(), plan, 200, 2_000).0
+    check(&job.pack(), plan, 200, 2_000).0
 }
 
 fn refusal(number: u64, place: u64) -> ReplayResult {
@@ -42,22 +28,11 @@ fn refusal(number: u64, place: u64) -> ReplayResult {
 }
 
 fn success(cost: u64, added: u64, penalties: u64, joined: u64) -> ReplayResult {
-    ReplayResult {
-        refusal: 0,
-        place: 0,
-        cost,
-        added,
-        penalties,
-        joined,
-    }
+    succeeded(Totals::of(cost, added, penalties, joined))
 }
 
 fn join(start: Vertex, moves: &[Move], cost: u64) -> Record {
-    Record::Join(Join {
-        start,
-        moves: moves.to_vec(),
-        cost,
-    })
+    Record::Join(Join::of(start, moves, cost))
 }
 
 /// The answer to job A with one join.
@@ -67,7 +42,7 @@ fn answer_to_a(start: Vertex, moves: &[Move], cost: u64) -> ReplayResult {
 
 #[test]
 fn a_good_plan_gives_map_and_totals() {
-    let (result, map) = left(&marked::a().pack(), &A, 66, 1_030);
+    let (result, map) = check(&marked::a().pack(), &A, 66, 1_030);
     assert_eq!(result, success(3, 0, 0, 1));
     assert_eq!(map[..4], [1, 1, 1, 1]);
     assert_eq!(map[4..64], [0; 60]);
@@ -76,7 +51,7 @@ fn a_good_plan_gives_map_and_totals() {
 
 #[test]
 fn no_record_ends_the_net_unexamined() {
-    let (result, map) = left(&marked::a().pack(), &[0x00], 64, 1_024);
+    let (result, map) = check(&marked::a().pack(), &[0x00], 64, 1_024);
     assert_eq!(result, success(0, 0, 0, 0));
     assert_eq!(map[..5], [1, 0, 0, 1, 0]);
     assert_eq!(map[5..], [0; 59]);
@@ -86,12 +61,12 @@ fn no_record_ends_the_net_unexamined() {
 fn short_slices_are_refused_with_the_need() {
     let job = marked::a().pack();
     for plan in [&A[..], &[0xFF]] {
-        assert_eq!(left(&job, plan, 63, 1_024).0, refusal(12, 64));
-        assert_eq!(left(&job, plan, 0, 0).0, refusal(12, 64));
-        assert_eq!(left(&job, plan, 64, 1_023).0, refusal(13, 1_024));
-        assert_eq!(left(&job, plan, 64, 0).0, refusal(13, 1_024));
+        assert_eq!(check(&job, plan, 63, 1_024).0, refusal(12, 64));
+        assert_eq!(check(&job, plan, 0, 0).0, refusal(12, 64));
+        assert_eq!(check(&job, plan, 64, 1_023).0, refusal(13, 1_024));
+        assert_eq!(check(&job, plan, 64, 0).0, refusal(13, 1_024));
     }
-    let (_, map) = left(&job, &A, 64, 1_023);
+    let (_, map) = check(&job, &A, 64, 1_023);
     assert!(map.iter().all(|code| *code > 257), "as found");
 }
 
@@ -99,8 +74,8 @@ fn short_slices_are_refused_with_the_need() {
 fn the_job_comes_before_slices_and_plan() {
     let mut job = marked::a().pack();
     job.push(0);
-    assert_eq!(left(&job, &[], 0, 0).0, refusal(11, 206));
-    assert_eq!(left(&[], &A, 0, 0).0, refusal(2, 0));
+    assert_eq!(check(&job, &[], 0, 0).0, refusal(11, 206));
+    assert_eq!(check(&[], &A, 0, 0).0, refusal(2, 0));
 }
 
 #[test]
@@ -127,7 +102,7 @@ fn a_wrong_tail() {
 
 #[test]
 fn a_refused_plan_leaves_zeros() {
-    let (result, map) = left(&marked::a().pack(), &A[..10], 66, 1_030);
+    let (result, map) = check(&marked::a().pack(), &A[..10], 66, 1_030);
     assert_eq!(result, refusal(15, 46));
     assert_eq!(map[..64], [0; 64]);
     assert!(map[64..].iter().all(|code| *code > 257), "as found");

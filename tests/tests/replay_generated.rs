@@ -9,6 +9,7 @@ use std::time::Instant;
 use maizespell_tests::damage::plan::AIMED;
 use maizespell_tests::library::REPLAY;
 use maizespell_tests::pairs::Pairs;
+use maizespell_tests::reader::RETIRED;
 use maizespell_tests::rules::view::Cause;
 
 const SEED: u64 = 90_210;
@@ -23,7 +24,8 @@ fn generated_plans_get_the_answer_of_the_second_replay() {
     println!("{seen}{tally}in {:?}", begin.elapsed());
     tally.assert_same();
     assert!(tally.asked >= 20_000);
-    for number in (1..=18).filter(|number| *number != 14) {
+    assert_eq!(tally.hits[RETIRED], 0);
+    for number in (1..=18).filter(|number| ![RETIRED, 14].contains(number)) {
         let least = if number == 1 { 10 } else { 100 };
         assert!(tally.hits[number] >= least, "refusal {number} is rare");
     }
@@ -35,6 +37,7 @@ fn generated_plans_get_the_answer_of_the_second_replay() {
         assert!(places >= 100, "few places of {number}");
     }
     seen.assert_extensions(50);
+    seen.assert_one_pin(50);
     for (kind, _) in AIMED {
         seen.assert_often(kind, 500);
     }

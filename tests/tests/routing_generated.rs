@@ -11,6 +11,7 @@ use maizespell_tests::generate::routable::{quick_routable_job, routable_job, Siz
 use maizespell_tests::lent::Lent;
 use maizespell_tests::library::{REPLAY, ROUTING};
 use maizespell_tests::random::Random;
+use maizespell_tests::reader::RETIRED;
 
 const SEED: u64 = 20_205;
 const JOBS: u32 = 20_000;
@@ -40,10 +41,11 @@ fn generated_jobs_get_the_answer_of_the_second_routing() {
         seen.assert_often(&format!("slice: {slice} exact"), 1_000);
         seen.assert_often(&format!("slice: {slice} longer"), 1_000);
     }
-    for number in 0..=14 {
+    assert_eq!(tally.hits[RETIRED], 0);
+    for number in (0..=14).filter(|number| *number != RETIRED) {
         assert!(tally.hits[number] >= 50, "number {number} is rare");
     }
-    for number in [2, 5, 6, 7, 8, 9, 10, 11, 12, 13, 14] {
+    for number in [2, 5, 6, 8, 9, 10, 11, 12, 13, 14] {
         assert!(tally.places[number].len() >= 20, "few places of {number}");
     }
     assert!(time < TIME, "{JOBS} jobs in {time:?}");

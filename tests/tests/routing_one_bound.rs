@@ -3,7 +3,7 @@
 
 use std::convert::Infallible;
 
-use maizespell_tests::grid::{vertex, Vertex};
+use maizespell_tests::grid::vertex;
 use maizespell_tests::job::Job;
 use maizespell_tests::joining::join_nets;
 use maizespell_tests::library::ROUTING;
@@ -12,15 +12,7 @@ use maizespell_tests::plan::{Join, Record};
 use maizespell_tests::router::{one_bound, route, walk};
 use maizespell_tests::routing::routed_by;
 use maizespell_tests::rules::board::Board;
-use maizespell_tests::rules::moves::Move::{self, Down, High, Low, Up};
-
-fn join(start: Vertex, moves: &[Move], cost: u64) -> Join {
-    Join {
-        start,
-        moves: moves.to_vec(),
-        cost,
-    }
-}
+use maizespell_tests::rules::moves::Move::{Down, High, Low, Up};
 
 /// Both routers make these joins. After the first of them, one bound gives this second one.
 fn check(job: &Job, cheapest: [Join; 2], dearer: Join) {
@@ -51,10 +43,10 @@ fn the_dearer_way_to_a_vertex_owes_less() {
         ..marked::plain(&[&[vertex(1, 1, 0), vertex(1, 0, 2), vertex(3, 2, 2)]])
     };
     let cheapest = [
-        join(vertex(1, 1, 0), &[Low, Down, High, High, Up], 8),
-        join(vertex(1, 1, 0), &[High, Up, High, High, Up], 8),
+        Join::of(vertex(1, 1, 0), &[Low, Down, High, High, Up], 8),
+        Join::of(vertex(1, 1, 0), &[High, Up, High, High, Up], 8),
     ];
-    let dearer = join(vertex(1, 0, 2), &[High, High, Up, Up], 9);
+    let dearer = Join::of(vertex(1, 0, 2), &[High, High, Up, Up], 9);
     check(&job, cheapest, dearer);
 }
 
@@ -73,9 +65,9 @@ fn the_cheaper_way_to_a_vertex_has_no_room() {
         ..marked::plain(&[&net_1, &net_2])
     };
     let cheapest = [
-        join(net_1[0], &[Up, High, Up], 7),
-        join(net_2[0], &[Up, Low, Low, Low, Low, Up], 88),
+        Join::of(net_1[0], &[Up, High, Up], 7),
+        Join::of(net_2[0], &[Up, Low, Low, Low, Low, Up], 88),
     ];
-    let dearer = join(net_2[0], &[Down, Low, Low, Low, Low, Up, Up, Up], 112);
+    let dearer = Join::of(net_2[0], &[Down, Low, Low, Low, Low, Up, Up, Up], 112);
     check(&job, cheapest, dearer);
 }

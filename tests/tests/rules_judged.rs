@@ -53,11 +53,11 @@ fn check_job(job: &Job, random: &mut Random, seen: &mut Seen) {
     let plan = wandering_plan(&board, random);
     let mut records = plan.records.iter();
     let mut brute = Brute::new(job);
-    let mut at_hand = 0;
+    let mut begun = 0;
     let joined = join_nets(&board, |net| {
-        if net.number() != at_hand {
-            at_hand = net.number();
-            brute.begin(usize::from(at_hand) - 1);
+        for next in begun..usize::from(net.number()) {
+            brute.begin(next);
+            begun = next + 1;
         }
         check_walk(job, net, &brute, random, seen);
         let join = records.next().and_then(|record| record.join());
@@ -66,6 +66,7 @@ fn check_job(job: &Job, random: &mut Random, seen: &mut Seen) {
         }
         Ok::<_, Infallible>(join.map(|join| walk(&board, net, join)))
     });
+    (begun..job.nets.len()).for_each(|next| brute.begin(next));
     assert_eq!(joined, Ok(brute.joined()));
     assert_eq!(joined, Ok(plan.joined));
 }

@@ -9,7 +9,7 @@ use maizespell_tests::damage::{aimed, blind};
 use maizespell_tests::generate::good_job;
 use maizespell_tests::job::Job;
 use maizespell_tests::random::Random;
-use maizespell_tests::reader::read;
+use maizespell_tests::reader::{read, RETIRED};
 
 /// Each seed makes this many good jobs, and from each some twenty damaged ones.
 const SEEDS: [u64; 2] = [2_024, 31_337];
@@ -26,7 +26,7 @@ fn ask_good(tally: &mut Tally, job: &Job) {
 
 /// One rule broken, each in turn; the second reader must see it as aimed.
 fn ask_aimed(tally: &mut Tally, good: &Job, random: &mut Random) {
-    for number in 2..=11 {
+    for number in aimed::RULES {
         if let Some(damaged) = aimed::aimed(number, good, random) {
             let refusal = damaged.refusal;
             assert_eq!(read(&damaged.bytes), Err(refusal), "missed the aim");
@@ -38,9 +38,10 @@ fn ask_aimed(tally: &mut Tally, good: &Job, random: &mut Random) {
 /// Several rules broken: the first in reading order counts.
 fn ask_aimed_twice(tally: &mut Tally, good: &Job, random: &mut Random) {
     let mut job = good.clone();
-    let first = random.between(4, 10);
-    for number in [first, random.between(3, first - 1)] {
-        aimed::break_rule(u64::from(number), &mut job, random);
+    let later = 1 + random.index(aimed::DATA_RULES.len() - 1);
+    let earlier = random.index(later);
+    for rule in [later, earlier] {
+        aimed::break_rule(aimed::DATA_RULES[rule], &mut job, random);
     }
     let mut bytes = job.pack();
     tally.ask("two rules broken", &bytes);
@@ -100,11 +101,15 @@ fn generated_jobs_get_the_answer_of_the_second_reader() {
     println!("{tally}");
     tally.assert_same();
     assert!(tally.jobs >= 100_000);
-    for number in 1..=11 {
-        let least = if number == 1 { 20 } else { 1_000 };
-        assert!(tally.hits[number] >= least, "refusal {number} is rare");
+    assert_eq!(tally.hits[RETIRED], 0);
+    assert!(tally.hits[1] >= 20, "refusal 1 is rare");
+    for number in aimed::RULES {
+        assert!(
+            tally.hits[number as usize] >= 1_000,
+            "refusal {number} is rare"
+        );
     }
-    for number in [2, 5, 6, 7, 8, 9, 10, 11] {
+    for number in [2, 5, 6, 8, 9, 10, 11] {
         assert!(tally.places[number].len() >= 20, "few places of {number}");
     }
 }

@@ -91,11 +91,9 @@ def read_nets(bits: BitReader, job: Job, count: int) -> tuple[Net, ...]:
 
 
 def read_net(bits: BitReader, grid: Grid, covered: set[Vertex], earlier: set[Vertex]) -> Net:
-    """2 and 7, then pins and boxes. Its pins are added to the earlier ones."""
-    at = bits.group(NET_HEAD, NOT_WHOLE)
+    """2, then pins and boxes. Its pins are added to the earlier ones."""
+    bits.group(NET_HEAD, NOT_WHOLE)
     pins, boxes = bits.take(4) + 1, bits.take(4)
-    if pins == 1:
-        raise Refused(7, at)
     return Net(
         tuple(read_pin(bits, grid, covered, earlier) for _ in range(pins)),
         tuple(read_box(bits, grid) for _ in range(boxes)),

@@ -7,7 +7,6 @@ RULES = {
     4: "the grid has more than 16,384 vertices",
     5: "a layer line's rule is broken",
     6: "an obstacle lies outside the grid, whole or in part",
-    7: "a net has one pin; it needs 2 at least",
     8: "a pin is outside the grid or on an obstacle",
     9: "a pin is on the same vertex as an earlier pin",
     10: "a box has low above high, or is outside the grid",

@@ -54,8 +54,8 @@ def some_nets(random: Random, job: Job) -> tuple[Net, ...]:
     vertices = {some_vertex(random, grid) for _ in range(random.choice((0, 8, 60)))} - covered
     free = random.sample(sorted(vertices), len(vertices))
     nets = []
-    while len(free) >= 2:
-        count = edgy(random, 2, min(16, len(free)))
+    while free:
+        count = edgy(random, 1, min(16, len(free)))
         pins, free = free[:count], free[count:]
         nets.append(Net(tuple(pins), tuple(some_box(random, grid) for _ in range(random.choice((0, 0, 1, 2, 15))))))
     return tuple(nets)

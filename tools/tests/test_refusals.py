@@ -54,8 +54,8 @@ class Refusals(unittest.TestCase):
             self.refused(data[:length], 2, ends[first] - widths[first])
 
     def test_each_refusal_has_words(self):
-        self.assertEqual(list(RULES), list(range(1, 19)))
-        self.assertEqual(len(set(RULES.values())), 18)
+        self.assertEqual(list(RULES), [number for number in range(1, 19) if number != 7])
+        self.assertEqual(len(set(RULES.values())), 17)
 
     def test_edition_before_size(self):
         self.refused(b"\x2f\xff\xff" + bytes(20), 3, 0)
@@ -98,7 +98,6 @@ class Refusals(unittest.TestCase):
 
     def test_nets(self):
         pin = PINS[0]
-        self.refused(job_with(pins=(pin,)), 7, 160)
         self.refused(job_with(pins=(pin, Vertex(0, 4, 0))), 8, 187)
         self.refused(job_with(pins=(pin, Vertex(0, 1, 1)), obstacles=(Obstacle(Vertex(0, 1, 0), 2),)), 8, 214)
         self.refused(job_with(pins=(pin, pin)), 9, 187)

@@ -44,7 +44,7 @@ class RoundTrips(unittest.TestCase):
         nets = [net for job in jobs for net in job.nets]
         self.assertEqual({job.grid.layers for job in jobs}, set(range(1, 9)))
         self.assertEqual({job.grid.direction for job in jobs}, {0, 1})
-        self.assertEqual({len(net.pins) for net in nets}, set(range(2, 17)))
+        self.assertEqual({len(net.pins) for net in nets}, set(range(1, 17)))
         self.assertEqual({len(net.boxes) for net in nets}, {0, 1, 2, 15})
         self.assertTrue(any(job.short == CLOSED for job in jobs) and any(job.short == 0 for job in jobs))
         self.assertTrue(any(layer.area == CLOSED for job in jobs for layer in job.layers))

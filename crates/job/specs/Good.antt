@@ -48,7 +48,7 @@ pub record GoodPin (g : Grid) (obstacles : List Obstacle) (v : Vertex) : Type 0 
   pub free : T (not (onObstacle g obstacles v))
 
 pub record GoodNet (g : Grid) (obstacles : List Obstacle) (net : Net) : Type 0 where
-  pub twoPins : 2 ≤ length (net .pins)
+  pub somePins : 1 ≤ length (net .pins)
   pub pins : length (net .pins) ≤ 16
   pub boxes : length (net .boxes) < 16
   pub goodPins : All (GoodPin g obstacles) (net .pins)

@@ -167,12 +167,11 @@ readBox bits g after at = do
   rule 10 at (goodBox g (boxAt bits at))
   good (boxAt bits at)
 
--- "Net: head of 8 bits (pins minus one 4, at least 1; boxes 4), then pins of 19 bits, then boxes of 38 bits";
--- "7, net head: one pin"
+-- "Net: head of 8 bits (pins minus one 4; boxes 4), then pins of 19 bits, then boxes of 38 bits"; "A net of one
+-- pin is now accepted"
 unfoldable pub readNet : (bits : List ℕ) → Grid → List Obstacle → (earlier : List Vertex) → (at : ℕ) → Read Net
 readNet bits g obstacles earlier at = do
   wholeGroup bits at 8
-  rule 7 at (leb 1 (field bits at 4))
   pins ← readPins bits g obstacles earlier (suc (field bits at 4)) (at + 8)
   boxes ← readMany 38 (readBox bits g) (field bits (at + 4) 4) (at + 8 + 19 * length pins)
   good (record { pins = pins; boxes = boxes })

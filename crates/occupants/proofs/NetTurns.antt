@@ -6,8 +6,6 @@ use mathlib.Core.Path.{_≡_, refl, sym, _∙_}
 use mathlib.Core.List.{List}
 use mathlib.Core.Bool.{Bool, true, false}
 use native.Mathlib.Omega.{arith}
-use borrow.Author.Tests.{le-leb, lt-leb}
-use lib.Dec.{leb}
 use Rattle.bits.specs.Bits.{bitsOf, whole, field}
 use Rattle.bits.proofs.Laws.{field-below, bitsOf-bits}
 use Rattle.job.specs.Grid.{Grid}
@@ -54,11 +52,10 @@ module _ (bytes : List ℕ) (g : Grid) (at : ℕ) (m : List ℕ) where
 
   -- the rules of a net whose head is whole
   pub record NetRules (h : NetHead) : Type 0 where
-    pub few : h .pins < 2 → netFrom (bitsOf bytes) g at m ≡ stopped 7 at m
-    pub blocked : (r : Reached) (m′ : List ℕ) (n p : ℕ) → 2 ≤ h .pins → r ≡ answerOf (pinsFrom (bitsOf bytes) g (h .pins) (at + 8) m)
+    pub blocked : (r : Reached) (m′ : List ℕ) (n p : ℕ) → r ≡ answerOf (pinsFrom (bitsOf bytes) g (h .pins) (at + 8) m)
         → m′ ≡ occupantsOf (pinsFrom (bitsOf bytes) g (h .pins) (at + 8) m) → r ≡ Reached.Refused n p
         → netFrom (bitsOf bytes) g at m ≡ stopped n p m′
-    pub fine : (r : Reached) (m′ : List ℕ) (next : ℕ) (r′ : Reached) → 2 ≤ h .pins
+    pub fine : (r : Reached) (m′ : List ℕ) (next : ℕ) (r′ : Reached)
         → r ≡ answerOf (pinsFrom (bitsOf bytes) g (h .pins) (at + 8) m)
         → m′ ≡ occupantsOf (pinsFrom (bitsOf bytes) g (h .pins) (at + 8) m) → r ≡ Reached.At next
         → r′ ≡ boxesFrom (bitsOf bytes) g (h .boxes) next → netFrom (bitsOf bytes) g at m ≡ withOccupants m′ r′
@@ -74,11 +71,8 @@ module _ (bytes : List ℕ) (g : Grid) (at : ℕ) (m : List ℕ) where
           let same : h ≡ record { pins = suc (field (bitsOf bytes) at 4); boxes = field (bitsOf bytes) (at + 4) 4 } = cc in
           rw same
           (record {
-            few = λ k. rw (w, lt-leb 1 (field (bitsOf bytes) at 4) (omega arith));
-            blocked = λ r m′ n p k answer occupants stop.
-                rw (w, le-leb 1 (field (bitsOf bytes) at 4) (omega arith)) (then-refused _ _ answer occupants stop);
-            fine = λ r m′ next r′ k answer occupants go boxes.
-                rw (w, le-leb 1 (field (bitsOf bytes) at 4) (omega arith), boxes) (then-at _ _ answer occupants go);
+            blocked = λ r m′ n p answer occupants stop. rw w (then-refused _ _ answer occupants stop);
+            fine = λ r m′ next r′ answer occupants go boxes. rw (w, boxes) (then-at _ _ answer occupants go);
           })
 
   -- a net takes at most 882 bits
@@ -88,10 +82,8 @@ module _ (bytes : List ℕ) (g : Grid) (at : ℕ) (m : List ℕ) where
       let pins = four-bits bytes at in
       let boxes = four-bits bytes (at + 4) in
       ends-either (whole (bitsOf bytes) at 8)
-      (ends-either (leb 1 (field (bitsOf bytes) at 4))
       (ends-then _ (pins-end (bitsOf bytes) g (suc (field (bitsOf bytes) at 4)) (at + 8) m)
       (λ next m′ e. ends-weaker (boxes-end (bitsOf bytes) g (field (bitsOf bytes) (at + 4) 4) next m′) (λ end f. omega arith)))
-      (nowhere 7 at m))
       (nowhere 2 at m)
 
 -- ---- nets

@@ -11,7 +11,7 @@ use mathlib.Core.Path.{_≡_}
 use mathlib.Core.List.{List, [], _∷_}
 use mathlib.Core.Bool.{cond}
 use lib.ListN.{length, getD, set, replicate}
-use lib.Dec.{T, eqb, leb}
+use lib.Dec.{T, eqb}
 use Rattle.bits.specs.Bits.{field, whole}
 use Rattle.job.specs.Lists.{any}
 use Rattle.job.specs.Grid.{Grid, Vertex, inside, same, vertexNumber}
@@ -89,10 +89,8 @@ boxesFrom bits g n at = manyReached (at + 38 * n) (readMany 38 (readBox bits g) 
 unfoldable pub netFrom : (bits : List ℕ) → Grid → (at : ℕ) → List ℕ → Passed
 netFrom bits g at m =
     cond (whole bits at 8)
-    (cond (leb 1 (field bits at 4))
     (andThen (pinsFrom bits g (suc (field bits at 4)) (at + 8) m)
     (λ boxesAt occupants. withOccupants occupants (boxesFrom bits g (field bits (at + 4) 4) boxesAt)))
-    (stopped 7 at m))
     (stopped 2 at m)
 
 unfoldable pub netsFrom : (bits : List ℕ) → Grid → (n at : ℕ) → List ℕ → Passed

@@ -131,9 +131,6 @@ pub fn read_net(s: &[u8], grid: Grid, at: usize, occupants: &mut [u8; 16384]) ->
     let NetGroup::Whole(net) = net_group(s, at) else {
         return Reached::Refused(2, at);
     };
-    if net.pins < 2 {
-        return Reached::Refused(7, at);
-    }
     let pins = read_pins(s, grid, net.pins, at + 8, occupants);
     match pins {
         Reached::At(boxes_at) => read_boxes(s, grid, net.boxes, boxes_at),

@@ -24,3 +24,4 @@ pub mod Routed
 pub mod Numbered
 pub mod Sizes
 pub mod Ties
+pub mod OnePin

@@ -19,7 +19,8 @@ use Rattle.plan.proofs.Numbered.{plan-numbered}
 use Rattle.router.specs.Room.{readWithRoom}
 use Rattle.router.specs.Replay.{refusedReplay, replayResult, replayRead, replayOf, Accepts}
 use Rattle.router.proofs.Holding.{has-room, room-roomy}
-use Rattle.router.proofs.Promises.{room-read, room-numbered}
+use Rattle.router.proofs.Numbered.{room-numbered}
+use Rattle.router.proofs.Promises.{room-read}
 
 -- a plan's answer is 0 exactly where the plan is read as good
 plan-answer : (j : Job) (plan : List ℕ) (x : Read Routed) → readPlan j plan ≡ x

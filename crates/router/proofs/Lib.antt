@@ -5,6 +5,7 @@
 --     Ends            routing's outcome, by the ways in which it ends
 --     Routes          what the code of routing asks and leaves
 -- Theorems about the outcomes:
+--     Numbered        the numbers that calls answer, 7 not among them
 --     Promises        its plan is in the slice, cheapest, by the ties, and replays
 --     Accepting       what replay accepts
 --     MarkedRoutes    the marked routes
@@ -13,6 +14,7 @@ mod Sizes
 mod Replays
 mod Ends
 mod Routes
+pub mod Numbered
 pub mod Promises
 pub mod Accepting
 pub mod MarkedRoutes

@@ -1,6 +1,5 @@
 -- What routing's outcome promises, whatever the bytes and the slices.
 --     room-read            a job that has room is the one that was read
---     room-numbered        a refusal from 1 to 13 has a number
 --     plan-within          the plan's bytes are in the slice
 --     room-routes          with slices that are long enough, the plan stands in the slice
 --     Returned             a claim about a plan that routing returned
@@ -21,7 +20,7 @@ use Rattle.job.specs.Job.{Job, largestMinLength}
 use Rattle.job.specs.Good.{GoodJob}
 use Rattle.job.specs.Reading.{good, readJob}
 use Rattle.job.proofs.Binds.{steps}
-use Rattle.job.proofs.Numbered.{Numbered, rule-numbered, then-numbered, bind-numbered, good-numbered, numbered-some, job-numbered}
+use Rattle.job.proofs.Numbered.{numbered-some}
 use Rattle.job.proofs.TwoWay.{rules-hold}
 use Rattle.rules.specs.Prices.{techOf}
 use Rattle.rules.specs.Joins.{places}
@@ -30,24 +29,18 @@ use Rattle.plan.specs.Claim.{Cheapest, ByTies}
 use Rattle.plan.specs.Sizes.{mostJoins, mostBytes}
 use Rattle.plan.proofs.Routed.{routing-read, routing-plan-cheapest, routing-plan-by-ties}
 use Rattle.plan.proofs.Sizes.{plan-fits}
-use Rattle.router.specs.Room.{workNeed, roomFor, readWithRoom}
+use Rattle.router.specs.Room.{workNeed, readWithRoom}
 use Rattle.router.specs.Replay.{ReplayOutcome, refusedReplay, replayResult, replayRead, replayOf}
 use Rattle.router.specs.Routing.{RoutingOutcome, refusedRouting, totalResult, routingOf, planIn}
 use Rattle.router.specs.Held.{replayLeaves, routingLeaves}
 use Rattle.router.specs.declared.routing_call.RoutingResult.{RoutingResult}
 use Rattle.router.proofs.Ends.{Ends, early, short, whole, routes-ends}
+use Rattle.router.proofs.Numbered.{room-numbered}
 
 -- a job that has room is the one that was read
 pub room-read : (bytes map work : List ℕ) (j : Job) → readWithRoom bytes map work ≡ good j → readJob bytes ≡ good j
 unfolding readWithRoom
 room-read bytes map work j e = let (k, read, (tests, is)) = simp steps at e in rw is at read
-
--- a refusal from 1 to 13 has a number
-pub room-numbered : (bytes map work : List ℕ) → Numbered (readWithRoom bytes map work)
-unfolding readWithRoom roomFor
-room-numbered bytes map work =
-    bind-numbered _ _ (job-numbered bytes) (λ j.
-    then-numbered _ _ (then-numbered _ _ (rule-numbered 12 _ _ (omega arith)) (rule-numbered 13 _ _ (omega arith))) (good-numbered j))
 
 -- the plan's bytes are in the slice
 pub plan-within : (bytes map work plan : List ℕ) → routingOf bytes map work plan .result .bytes ≤ length plan

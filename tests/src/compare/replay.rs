@@ -4,7 +4,7 @@ use std::fmt;
 
 use super::report::{write_apart, write_bytes, Apart};
 use super::tally::{self, Tally};
-use crate::library::ReplayResult;
+use crate::library::{ReplayResult, REPLAY};
 use crate::replay::{replay, Replay};
 
 /// What the slices hold before a call; no answer puts it there.
@@ -92,6 +92,21 @@ impl Comparison {
             work,
         })
     }
+}
+
+/// Asks the library and the second replay and fails with a report where they differ. The answer,
+/// and the map that is left.
+pub fn check(job: &[u8], plan: &[u8], map_len: usize, work_len: usize) -> (ReplayResult, Vec<u16>) {
+    let mut comparison = Comparison::of(REPLAY);
+    let result = comparison.ask(&Case {
+        kind: "by hand",
+        job,
+        plan,
+        map_len,
+        work_len,
+    });
+    comparison.tally.assert_same();
+    (result, comparison.expected.map)
 }
 
 /// A pair of job and plan on which the two answers differ.

@@ -17,7 +17,13 @@ pub struct Aimed {
     pub refusal: Refusal,
 }
 
-/// A copy of the good job that breaks the rule of this number, 2 to 11.
+/// The numbers of the rules about the job's data.
+pub const DATA_RULES: [u64; 7] = [3, 4, 5, 6, 8, 9, 10];
+
+/// All numbers that `aimed` aims at.
+pub const RULES: [u64; 9] = [2, 3, 4, 5, 6, 8, 9, 10, 11];
+
+/// A copy of the good job that breaks the rule of this number.
 pub fn aimed(number: u64, good: &Job, random: &mut Random) -> Option<Aimed> {
     let (bytes, place) = match number {
         2 => cut_group(good, random),
@@ -32,14 +38,13 @@ pub fn aimed(number: u64, good: &Job, random: &mut Random) -> Option<Aimed> {
     Some(Aimed { bytes, refusal })
 }
 
-/// Breaks a rule of the job's data: 3 to 10.
+/// Breaks a rule about the job's data.
 pub fn break_rule(number: u64, job: &mut Job, random: &mut Random) -> Option<u64> {
     match number {
         3 => Some(other_edition(job, random)),
         4 => Some(too_many_vertices(job, random)),
         5 => Some(layer_line(job, random)),
         6 => obstacle_outside(job, random),
-        7 => one_pin(job, random),
         8 => pin_outside_or_on_obstacle(job, random),
         9 => pin_on_earlier_pin(job, random),
         10 => guide_box(job, random),
@@ -137,16 +142,6 @@ pub fn outside(grid: &Grid, inside: Vertex, random: &mut Random) -> Option<Verte
         choices.push(Vertex { column, ..inside });
     }
     (!choices.is_empty()).then(|| *random.pick(&choices))
-}
-
-/// 7: a chosen net keeps one pin.
-fn one_pin(job: &mut Job, random: &mut Random) -> Option<u64> {
-    if job.nets.is_empty() {
-        return None;
-    }
-    let number = random.index(job.nets.len());
-    job.nets[number].pins.truncate(1);
-    Some(job.net_place(number))
 }
 
 /// Net and pin numbers of every pin, in reading order.

@@ -139,7 +139,7 @@ fn nets(size: Size, grid: &Grid, obstacles: &[Obstacle], random: &mut Random) ->
     let mut free = free_vertices(grid, obstacles);
     let mut nets = some_nets(count, most_pins, &mut free, grid, random);
     for net in &mut nets {
-        if random.one_in(2) {
+        if net.pins.len() > 1 && random.one_in(2) {
             stack(net, &mut free, random);
         }
         if !net.boxes.is_empty() && !random.one_in(4) {
@@ -212,7 +212,7 @@ mod tests {
         for length in 1..=15 {
             assert_some(&jobs, "this M", |job| job.largest_min_length() == length);
         }
-        for pins in 2..=MOST_PINS {
+        for pins in 1..=MOST_PINS {
             assert_some(&jobs, "a net of so many pins", |job| {
                 job.nets.iter().any(|net| net.pins.len() == pins)
             });

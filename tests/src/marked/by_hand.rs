@@ -20,28 +20,19 @@ pub const COSTS: [(char, &[Option<u64>]); 12] = [
 ];
 
 pub const TOTALS: [(char, Totals); 12] = [
-    ('A', totals(3, 0, 0, 1)),
-    ('B', totals(10, 2, 0, 1)),
-    ('C', totals(58, 0, 1, 1)),
-    ('D', totals(0, 0, 0, 0)),
-    ('E', totals(7, 3, 0, 1)),
-    ('F', totals(54, 0, 1, 1)),
-    ('G', totals(0, 0, 0, 0)),
-    ('H', totals(7, 2, 0, 1)),
-    ('I', totals(10, 2, 0, 1)),
-    ('J', totals(13, 0, 0, 1)),
-    ('K', totals(76, 0, 1, 2)),
-    ('L', totals(2, 0, 0, 1)),
+    ('A', Totals::of(3, 0, 0, 1)),
+    ('B', Totals::of(10, 2, 0, 1)),
+    ('C', Totals::of(58, 0, 1, 1)),
+    ('D', Totals::of(0, 0, 0, 0)),
+    ('E', Totals::of(7, 3, 0, 1)),
+    ('F', Totals::of(54, 0, 1, 1)),
+    ('G', Totals::of(0, 0, 0, 0)),
+    ('H', Totals::of(7, 2, 0, 1)),
+    ('I', Totals::of(10, 2, 0, 1)),
+    ('J', Totals::of(13, 0, 0, 1)),
+    ('K', Totals::of(76, 0, 1, 2)),
+    ('L', Totals::of(2, 0, 0, 1)),
 ];
-
-const fn totals(cost: u64, added: u64, penalties: u64, joined: u64) -> Totals {
-    Totals {
-        cost,
-        added,
-        penalties,
-        joined,
-    }
-}
 
 /// The plan of A.
 pub const A_PLAN: [u8; 11] = [

@@ -34,7 +34,7 @@ pub fn generated(jobs: u32, seed: u64) -> Vec<Input> {
     for _ in 0..jobs {
         let job = job_within_limits(random);
         inputs.push(Input::of("generated", job.pack()));
-        let number = u64::from(random.between(2, 11));
+        let number = *random.pick(&aimed::RULES);
         if let Some(bad) = aimed::aimed(number, &job, random) {
             inputs.push(Input::of(format!("rule {number} broken"), bad.bytes));
         }
@@ -64,6 +64,7 @@ pub fn edges() -> Vec<Input> {
     inputs.push(Input::of("no bytes", Vec::new()));
     inputs.push(Input::of("one byte", vec![0x11]));
     inputs.push(Input::of("no nets", marked::plain(&[]).pack()));
+    inputs.push(Input::of("nets of one pin", nets_of_one_pin().pack()));
     inputs.push(Input::of("256 vertices", benchmark::small_grid().pack()));
     for (rows, columns) in [(8, 16), (16, 8), (128, 1), (129, 1), (9, 15), (3, 43)] {
         let job = Job {
@@ -81,6 +82,10 @@ pub fn edges() -> Vec<Input> {
     inputs.extend(past_limits_and_refused());
     inputs.extend(long_inputs());
     inputs
+}
+
+fn nets_of_one_pin() -> Job {
+    marked::plain(&[&[vertex(0, 0, 0)], &[vertex(1, 3, 7)]])
 }
 
 fn pins_at_the_ends(rows: u32, columns: u32) -> [Vertex; 2] {
@@ -101,7 +106,7 @@ fn past_limits_and_refused() -> Vec<Input> {
         run: 2,
     });
     let mut inputs = vec![Input::of("large", large.pack())];
-    for number in 2..=11 {
+    for number in aimed::RULES {
         let bad = aimed::aimed(number, &large, random).expect("all can be broken");
         let kind = format!("large, rule {number} broken");
         inputs.push(Input::of(kind, bad.bytes));

@@ -65,7 +65,7 @@ fn add_job(job: &Job, cases: &mut Vec<Case>, random: &mut Random) {
             ..good.clone()
         });
     }
-    for number in 2..=11 {
+    for number in aimed::RULES {
         if let Some(bad) = aimed::aimed(number, job, random) {
             cases.push(Case {
                 job: bad.bytes,

@@ -88,24 +88,21 @@ module _ (B : List ℕ) (bits : AllBelow 2 B) (g : Grid) (small : GoodGrid g) (o
       → (readNet B g obstacles earlier at ≡ good net) ↔ (Placed B at (netBits net) × (GoodNet g obstacles net × New earlier (net .pins)))
   unfolding readNet
   net-read earlier at net =
-      simp (steps, tests, pins-read, boxes-read B bits g small, net-placed) (
-        λ (w, (some, (pins, (n, (p, (good-pins, new))), (boxes, (m, (q, good-boxes)), e)))).
+      simp (steps, pins-read, boxes-read B bits g small, net-placed) (
+        λ (w, (pins, (n, (p, (good-pins, new))), (boxes, (m, (q, good-boxes)), e))).
             let read : Net = record { pins = pins; boxes = boxes } in
             let h = net-head at read .1 (w, (omega arith, (sym m, tt))) in
             rw (← e) (
               (h .0, (p, q)),
-              (record { twoPins = omega arith; pins = omega arith; boxes = h .1 .1 .0; goodPins = good-pins; goodBoxes = good-boxes }, new),
+              (record { somePins = omega arith; pins = omega arith; boxes = h .1 .1 .0; goodPins = good-pins; goodBoxes = good-boxes }, new),
             ),
         λ ((h, (p, q)), (good-net, new)).
             let r = net-head at net .0 (h, (omega arith, (good-net .boxes, tt))) in (
               r .0,
               (
-                omega arith,
-                (
-                  net .pins,
-                  (omega arith, (p, (good-net .goodPins, new))),
-                  (net .boxes, (sym (r .1 .1 .0), (q, good-net .goodBoxes)), refl),
-                ),
+                net .pins,
+                (omega arith, (p, (good-net .goodPins, new))),
+                (net .boxes, (sym (r .1 .1 .0), (q, good-net .goodBoxes)), refl),
               ),
             ),
       )

@@ -7,7 +7,7 @@ use mathlib.Core.List.{List, [], _∷_, _++_}
 use mathlib.Core.Bool.{Bool, true, false, _&&_, not, cond}
 use native.Mathlib.Omega.{arith}
 use lib.ListN.{length, getD, set}
-use lib.Dec.{T, leb}
+use lib.Dec.{T}
 use Rattle.bits.specs.Bits.{whole, field}
 use Rattle.job.specs.Lists.{any}
 use Rattle.job.specs.Grid.{Grid, Vertex, vertices, inside, same, vertexNumber}
@@ -79,10 +79,9 @@ module _ (bits : List ℕ) (g : Grid) (small : vertices g ≤ 16384) (obstacles 
   unfolding netFrom readNet boxesFrom netWidth
   net-follows earlier at m occupants =
       follows-rule 2 at m (whole bits at 8)
-      (λ h. follows-rule 7 at m (leb 1 (field bits at 4))
-      (λ k. follows-then _ _ (pins-follow earlier (suc (field bits at 4)) (at + 8) m occupants)
+      (λ h. follows-then _ _ (pins-follow earlier (suc (field bits at 4)) (at + 8) m occupants)
       (λ pins m′ more. follows-end (λ boxes. record { pins = pins; boxes = boxes }) (boxes-follow (at + 8 + 19 * length pins) m′ more)
-      (λ boxes. omega arith) (λ boxes m″ end. end))))
+      (λ boxes. omega arith) (λ boxes m″ end. end)))
     where
       boxes-follow : {Claim : List ℕ → Type 0} (start : ℕ) (occupied : List ℕ) → Claim occupied
           → Follows (λ boxes. start + 38 * length boxes) (λ boxes. Claim) (withOccupants occupied (boxesFrom bits g (field bits (at + 4) 4) start))

@@ -1,0 +1,83 @@
+-- A net of one pin "writes no record, counts as fully joined and puts its pin on the map".
+--     OnePin                          of a net
+--     one-pin-joined                  it begins with no pin unjoined
+--     one-pin-routed, one-pin-read    so routing it and reading its records write and read nothing, and count it
+--     one-pins-routed                 a job of such nets alone: no entry, the pins as metal, and all nets joined
+--     one-pins-plan                   its plan has no bytes
+use Prim.Native.Nat.{ℕ, zero, suc, _+_}
+use mathlib.Core.Path.{_≡_, refl, _∙_}
+use mathlib.Core.List.{List, [], _∷_, map, flatMap}
+use native.Mathlib.Nat.{add-zero}
+use native.Mathlib.Omega.{arith}
+use lib.ListN.{length}
+use Rattle.bits.specs.Bits.{packBits, packTo}
+use Rattle.job.specs.Lists.{All}
+use Rattle.job.specs.Grid.{Grid, Vertex, vertexNumber}
+use Rattle.job.specs.Job.{Net, Job}
+use Rattle.job.specs.Reading.{good}
+use Rattle.rules.specs.Views.{pinsOf}
+use Rattle.rules.specs.Standings.{Standing, metalAtFirst, begun}
+use Rattle.rules.specs.Routings.{Totals, noTotals, withNet, routeNet, routeNets, routing}
+use Rattle.rules.proofs.Routes.{route-all}
+use Rattle.plan.specs.Layout.{planBytes, planOf}
+use Rattle.plan.specs.Reading.{unlessJoined, readNet}
+
+abbrev pub OnePin : Net → Type 0
+OnePin net = length (net .pins) ≡ 1
+
+module _ (g : Grid) (net : Net) (one : OnePin net) (metal : List (List ℕ)) where
+  -- it begins with no pin unjoined, and the metal as it was
+  pub one-pin-joined : (begun (pinsOf g net) metal .unjoined ≡ []) × (begun (pinsOf g net) metal .metal ≡ metal)
+  unfolding pinsOf begun
+  one-pin-joined = by (net .pins) one
+    where
+      by : (pins : List Vertex) → length pins ≡ 1
+          → (begun (map (vertexNumber g) pins) metal .unjoined ≡ []) × (begun (map (vertexNumber g) pins) metal .metal ≡ metal)
+      by [] e = absurd (omega (arith, e))
+      by (p ∷ []) e = (refl, refl)
+      by (p ∷ q ∷ pins) e = absurd (omega (arith, e))
+
+-- no pin is unjoined: no record is read
+read-all : (bits : List ℕ) (j : Job) (k n : ℕ) (s : Standing) (totals : Totals) (at : ℕ) → s .unjoined ≡ []
+    → readNet bits j k n s totals at ≡ good (record { entries = []; metal = s .metal; totals = withNet totals; at = at })
+unfolding readNet unlessJoined
+read-all bits j k zero s totals at none = refl
+read-all bits j k (suc n) s totals at none = rw none refl
+
+module _ (j : Job) (k n : ℕ) (net : Net) (one : OnePin net) (metal : List (List ℕ)) (totals : Totals) where
+  -- so routing it writes no record
+  pub one-pin-routed : routeNet j k n (begun (pinsOf (j .grid) net) metal) totals ≡ record { entries = []; metal = metal; totals = withNet totals }
+  one-pin-routed =
+      let (all, same) = one-pin-joined (j .grid) net one metal in
+      route-all j k n (begun (pinsOf (j .grid) net) metal) totals all ∙ rw same refl
+
+  -- and reading its records reads no bit
+  pub one-pin-read : (bits : List ℕ) (at : ℕ)
+      → readNet bits j k n (begun (pinsOf (j .grid) net) metal) totals at ≡ good (record { entries = []; metal = metal; totals = withNet totals; at = at })
+  one-pin-read bits at =
+      let (all, same) = one-pin-joined (j .grid) net one metal in
+      read-all bits j k n (begun (pinsOf (j .grid) net) metal) totals at all ∙ rw same refl
+
+-- the totals with so many nets joined
+abbrev withNets : (n : ℕ) → Totals → Totals
+withNets n t = record { cost = t .cost; added = t .added; penalties = t .penalties; joined = t .joined + n }
+
+-- such nets, one after the other
+one-pins-nets : (j : Job) (k : ℕ) (nets : List Net) (metal : List (List ℕ)) (totals : Totals) → All OnePin nets
+    → routeNets j k nets metal totals ≡ record { entries = []; metal = metal; totals = withNets (length nets) totals }
+unfolding routeNets All withNet
+one-pins-nets j k [] metal totals h = rw (add-zero (totals .joined)) refl
+one-pins-nets j k (net ∷ nets) metal totals h =
+    let one-more : suc (totals .joined) + length nets ≡ totals .joined + suc (length nets) = omega arith in
+    rw (one-pin-routed j k (length (pinsOf (j .grid) net)) net (h .0) metal totals, one-pins-nets j (suc k) nets metal (withNet totals) (h .1), one-more) refl
+
+module _ (j : Job) (h : All OnePin (j .nets)) where
+  -- no entry, the pins as metal, and all nets joined
+  pub one-pins-routed : routing j ≡ record { entries = []; metal = metalAtFirst j; totals = withNets (length (j .nets)) noTotals }
+  unfolding routing
+  one-pins-routed = one-pins-nets j 0 (j .nets) (metalAtFirst j) noTotals h
+
+  -- and no bytes
+  pub one-pins-plan : planOf j ≡ []
+  unfolding planOf planBytes packBits packTo flatMap
+  one-pins-plan = rw one-pins-routed refl
