@@ -23,9 +23,9 @@
 
 /* The version, which the package and the tool have from here. */
 #define MAIZESPELL_VERSION_MAJOR 0
-#define MAIZESPELL_VERSION_MINOR 3
+#define MAIZESPELL_VERSION_MINOR 4
 #define MAIZESPELL_VERSION_PATCH 0
-#define MAIZESPELL_VERSION "0.3.0"
+#define MAIZESPELL_VERSION "0.4.0"
 
 #ifdef __cplusplus
 extern "C" {
@@ -33,7 +33,7 @@ extern "C" {
 
 /* The numbers of refusals. The first broken rule in reading order is returned, with its place: 12 to 14 give
  * the need, all others a bit position, counted from the most significant bit of the first byte, 15 to 18 in
- * the plan. */
+ * the plan. 7 is retired: no call returns it. */
 enum maizespell_refusal {
     MAIZESPELL_NOT_REFUSED = 0,
     MAIZESPELL_JOB_TOO_LONG = 1,                 /* job over 262,144 bytes; place 0 */
@@ -42,7 +42,6 @@ enum maizespell_refusal {
     MAIZESPELL_TOO_MANY_VERTICES = 4,            /* vertices over 16,384; place 8 */
     MAIZESPELL_LAYER_LINE_RULE_BROKEN = 5,       /* the field */
     MAIZESPELL_OBSTACLE_OUTSIDE = 6,             /* any of it outside; the obstacle */
-    MAIZESPELL_ONE_PIN = 7,                      /* a net has one pin; the net head */
     MAIZESPELL_PIN_OUTSIDE_OR_ON_OBSTACLE = 8,   /* the pin */
     MAIZESPELL_PIN_ON_EARLIER_PIN = 9,           /* same vertex as an earlier pin; the pin */
     MAIZESPELL_BOX_CROSSED_OR_OUTSIDE = 10,      /* low above high, or outside; the box */

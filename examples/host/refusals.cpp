@@ -13,14 +13,13 @@ struct Entry {
     const char *place; // what the place counts
 };
 
-constexpr std::array<Entry, 18> entries{{
+constexpr std::array<Entry, 17> entries{{
     {MAIZESPELL_JOB_TOO_LONG, "job over 262,144 bytes", "bit"},
     {MAIZESPELL_GROUP_NOT_WHOLE, "group not whole", "bit"},
     {MAIZESPELL_EDITION_NOT_1, "edition not 1", "bit"},
     {MAIZESPELL_TOO_MANY_VERTICES, "vertices over 16,384", "bit"},
     {MAIZESPELL_LAYER_LINE_RULE_BROKEN, "layer line rule broken", "bit"},
     {MAIZESPELL_OBSTACLE_OUTSIDE, "obstacle outside", "bit"},
-    {MAIZESPELL_ONE_PIN, "net of one pin", "bit"},
     {MAIZESPELL_PIN_OUTSIDE_OR_ON_OBSTACLE, "pin outside or on an obstacle", "bit"},
     {MAIZESPELL_PIN_ON_EARLIER_PIN, "pin on an earlier pin", "bit"},
     {MAIZESPELL_BOX_CROSSED_OR_OUTSIDE, "box with low above high, or outside", "bit"},

@@ -3,6 +3,7 @@
 import unittest
 import xml.etree.ElementTree as ElementTree
 from collections import Counter
+from dataclasses import replace
 from random import Random
 
 import support
@@ -10,7 +11,7 @@ from generated import good_job
 from maizetext.colours import net_colour
 from maizetext.draw import draw
 from maizetext.grid import UP, Vertex
-from maizetext.job import Job
+from maizetext.job import Job, Net
 from maizetext.job_reading import read_job
 from maizetext.panel import Panel
 from maizetext.plan import Join, pack_plan
@@ -61,6 +62,12 @@ class Pictures(unittest.TestCase):
         self.counted("H", layer=3, pin=2, wire=1, via_up=2, via_down=2, extension=1)
         self.counted("J", guide=1, pin=2, wire=1)
         self.counted("K", pin=4, wire=1, via_up=2, via_down=2, short=1)
+
+    def test_a_net_of_one_pin(self):
+        job = read_job(job_bytes("A"))
+        job = replace(job, nets=(*job.nets, Net((Vertex(1, 3, 7),), ())))
+        for found in (marks(draw(job, None)), marks(draw(job, replay(job, plan_bytes("A"))))):
+            self.assertEqual((found["pin"], found["pin open"]), (3, 0))
 
     def test_extensions_go_out_from_each_end(self):
         first, last = on_track(3, 4)

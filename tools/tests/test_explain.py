@@ -1,10 +1,12 @@
 """A plan in words."""
 
 import unittest
+from dataclasses import replace
 
 import support  # noqa: F401
 from maizetext.explain import explain
 from maizetext.grid import HIGH, LOW, UP, Vertex
+from maizetext.job import Net
 from maizetext.job_reading import read_job
 from maizetext.plan import Join, pack_plan
 from marked import LETTERS, RECORDS, job_bytes, plan_bytes
@@ -68,6 +70,13 @@ class Explained(unittest.TestCase):
         said = [line for line in lines if line.startswith(("net", "  join ", "  joined"))]
         self.assertEqual(said[:3], ["net 1: pins (1,0,0) (1,2,0)", "  join 1 from (1,0,0)", "  joined: cost 2"])
         self.assertEqual(said[3:], ["net 2: pins (0,1,0) (2,1,0)", "  join 1 from (0,1,0)", "  joined: cost 74"])
+
+    def test_a_net_of_one_pin_is_joined(self):
+        job = read_job(job_bytes("A"))
+        text, legal = explain(replace(job, nets=(Net((Vertex(1, 3, 7),), ()), *job.nets)), plan_bytes("A"))
+        self.assertTrue(legal)
+        self.assertEqual(text.splitlines()[1:4], ["net 1: pins (1,3,7)", "  joined: cost 0", "net 2: pins (0,0,0) (0,0,3)"])
+        self.assertIn("nets fully joined 2 of 2\n", text)
 
     def test_no_join(self):
         lines, legal = self.explained("L", plan_bytes("L"))

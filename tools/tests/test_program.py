@@ -2,11 +2,14 @@
 
 import os
 import unittest
+from dataclasses import replace
 
 import support  # noqa: F401
 from maizetext.errors import InputError
+from maizetext.job import Net
 from maizetext.job_packing import pack_job
-from maizetext.route import plan_by_program, program_path
+from maizetext.job_reading import read_job
+from maizetext.route import plan_by_program, program_path, summary
 from maizetext.text_reading import read_text
 from marked import LETTERS, job_bytes, plan_bytes
 from support import EXAMPLES
@@ -28,6 +31,17 @@ class WithProgram(unittest.TestCase):
 
     def test_the_crossing(self):
         self.assertEqual(routed("crossing.txt"), bytes.fromhex((EXAMPLES / "crossing.plan").read_text()))
+
+    def test_nets_of_one_pin_alone_have_a_plan_of_no_bytes(self):
+        job = read_job(job_bytes("A"))
+        alone = replace(job, nets=tuple(Net((pin,), ()) for pin in job.nets[0].pins))
+        plan = plan_by_program(PROGRAM, "alone", pack_job(alone))
+        self.assertEqual(plan, b"")
+        self.assertEqual(summary(alone, plan, "the program").splitlines()[1:], [
+            "net 1: joined  1 of 1 pins, cost 0, added steps 0, penalised segments 0",
+            "net 2: joined  1 of 1 pins, cost 0, added steps 0, penalised segments 0",
+            "totals: cost 0, added steps 0, penalised segments 0, nets fully joined 2 of 2",
+        ])
 
     def test_larger_ones_are_too_large(self):
         for name in ("bus.txt", "macros.txt"):

@@ -96,6 +96,14 @@ class Refusals(unittest.TestCase):
         for outside in (Obstacle(Vertex(0, 3, 5), 4), Obstacle(Vertex(2, 0, 0), 1), Obstacle(Vertex(1, 1, 0), 4)):
             self.refused(job_with(obstacles=(inside, outside)), 6, 187)
 
+    def test_nets_of_one_pin(self):
+        pin, box = PINS[0], Box(Vertex(0, 0, 0), Vertex(1, 3, 7))
+        for boxes in ((), (box,), (box,) * 15):
+            self.assertEqual(read_job(job_with(pins=(pin,), boxes=boxes)).nets, (Net((pin,), boxes),))
+        self.refused(job_with(pins=(Vertex(0, 4, 0),)), 8, 168)
+        self.refused(job_with(pins=(pin,), boxes=(box, Box(Vertex(1, 0, 0), Vertex(0, 3, 7)))), 10, 225)
+        self.refused(job_with(pins=(pin,), boxes=(box,))[:-1], 2, 187)
+
     def test_nets(self):
         pin = PINS[0]
         self.refused(job_with(pins=(pin, Vertex(0, 4, 0))), 8, 187)

@@ -3,12 +3,16 @@
 import unittest
 
 import support
-from maizetext.grid import DOWN, HIGH, LOW, UP, Vertex
+from maizetext.grid import DOWN, HIGH, LOW, UP, Grid, Vertex
+from maizetext.job import Job, Layer, Net
 from maizetext.job_reading import read_job
 from maizetext.plan import Join, pack_plan
 from maizetext.refusals import Refused
 from maizetext.replay import replay
 from marked import LETTERS, job_bytes, plan_bytes
+
+GRID = Grid(0, 2, 4, 8)
+LAYERS = (Layer(1, 2, 3, 50), Layer(1, 0, 3, 50))
 
 COSTS = {"A": 3, "B": 10, "C": 58, "D": 0, "E": 7, "F": 54, "G": 0, "H": 7, "I": 10, "J": 13, "K": 76, "L": 2}
 
@@ -44,12 +48,42 @@ class SecondReplay(unittest.TestCase):
             met.add(numbers[0])
             with self.subTest(job=job, plan=plan):
                 self.assertEqual(answer(bytes.fromhex(job), bytes.fromhex(plan)), numbers)
-        self.assertEqual(met, {0, *range(2, 12), *range(15, 19)})
+        self.assertEqual(met, {0, 2, 3, 4, 5, 6, *range(8, 12), *range(15, 19)})
 
     def test_they_lay_at_either_end_and_at_both(self):
         good = [pair for pair in pairs() if pair[2].startswith("0 ")]
         met = set().union(*(ends_met(bytes.fromhex(job), bytes.fromhex(plan)) for job, plan, _ in good))
         self.assertEqual(met, {(True, False), (False, True), (True, True)})
+
+    def test_they_have_nets_of_one_pin(self):
+        good = [(read_job(bytes.fromhex(job)), answer) for job, _, answer in pairs() if answer.startswith("0 ")]
+        alone = [(len(job.nets), answer) for job, answer in good if job.nets and all(len(net.pins) == 1 for net in job.nets)]
+        mixed = [job for job, _ in good if {len(net.pins) == 1 for net in job.nets} == {True, False}]
+        self.assertGreaterEqual(len(mixed), 10)
+        self.assertGreaterEqual(len(alone), 3)
+        for nets, answer in alone:
+            self.assertEqual(answer, f"0 0 0 0 0 {nets}")
+
+
+class OnePin(unittest.TestCase):
+    """A net of one pin has no record and is joined; its pin is in the way of others."""
+
+    def test_alone(self):
+        job = Job(GRID, 10, 20, LAYERS, (), (Net((Vertex(0, 0, 1),), ()), Net((Vertex(1, 3, 7),), ())))
+        trace = replay(job, b"")
+        self.assertEqual((trace.broken, trace.joined(), trace.total("cost")), (None, 2, 0))
+        self.assertEqual([(net.joins, net.open_pins, net.ended_by_none) for net in trace.nets], [([], [], False)] * 2)
+        broken = replay(job, b"\x00").broken
+        self.assertEqual((broken.number, broken.place), (15, 0))
+
+    def test_before_and_after_another_net(self):
+        wire, spare = Net((Vertex(0, 0, 0), Vertex(0, 0, 3)), ()), Net((Vertex(0, 0, 1),), ())
+        plan = pack_plan([Join(Vertex(0, 0, 0), (HIGH,) * 3, 3)])
+        for nets, number in (((wire, spare), 2), ((spare, wire), 1)):
+            trace = replay(Job(GRID, 10, 20, LAYERS, (), nets), plan)
+            self.assertEqual((trace.broken.number, trace.broken.place), (17, 40))
+            self.assertIn(f"(0,0,1) is a pin of net {number}", str(trace.broken))
+            self.assertIsNone(replay(Job(GRID, 10, 20, LAYERS, (), nets), b"\x00").broken)
 
 
 class MarkedPlans(unittest.TestCase):

@@ -52,7 +52,6 @@ SWAPPED = [
     ("run 4", "run 0", 9, "expected RUN, a number from 1 to 256,"),
     ("obstacle 1", "obstacle 2", 9, "(refusal 6)"),
     ("obstacle 1", "layer 1", 9, "expected 'obstacle', 'net' or the end of the text, found 'layer'"),
-    ("  pin 0 0 3\n", "", 10, "a net has one pin; it needs 2 at least (refusal 7)"),
     ("  pin 0 0 0\n  pin 0 0 3\n", "", 11, "expected 'pin LAYER ROW COLUMN', found 'box'"),
     ("pin 0 0 3", "pin 0 0 8", 12, "(0,0,8) is outside (refusal 8)"),
     ("pin 0 0 3", "pin 1 2 5", 12, "(1,2,5) is on an obstacle (refusal 8)"),
@@ -76,6 +75,15 @@ class TextErrors(unittest.TestCase):
     def test_the_text_is_good_as_it_stands(self):
         job = read_text(GOOD, "job.txt")
         self.assertEqual((len(job.obstacles), len(job.nets), len(job.nets[0].boxes)), (1, 1, 1))
+
+    def test_a_net_of_one_pin_is_good(self):
+        one = GOOD.replace("  pin 0 0 3\n", "")
+        for text, boxes in ((one, 1), (one[: one.index("  box")], 0)):
+            (net,) = read_text(text, "job.txt").nets
+            self.assertEqual((len(net.pins), len(net.boxes)), (1, boxes))
+        self.assertIn("job.txt:12: expected COLUMNS", self.complaint(one.replace("columns 0..4", "columns 4")))
+        self.assertIn("job.txt:12: a box has low above high", self.complaint(one.replace("columns 0..4", "columns 4..0")))
+        self.assertIn("job.txt:11: a pin is outside", self.complaint(one.replace("pin 0 0 0", "pin 0 0 8")))
 
     def test_each_fault_is_told_by_its_line(self):
         for old, new, line, part in SWAPPED:

@@ -1,8 +1,10 @@
 -- `job::groups::net_group` meets its contract: the two fields follow each other in the group's 8 bits.
+use Prim.Native.Nat.{ℕ}
+use mathlib.Core.Path.{_≡_, refl}
 use borrow.Author.Needs.{needs}
-use native.Mathlib.Numerals.{add-one}
 use native.Mathlib.Omega.{arith}
 use Rattle.job.specs.Structs.{netGroup}
+use Rattle.job.specs.declared.groups.NetGroup.{NetGroup}
 use Rattle.job.proofs.Fields.{is-whole, is-cut, Left, all-left, past, room, value-below}
 use Rattle.job.proofs.groups.net_group.Statement.{statement}
 use Rattle.job.proofs.groups.net_group.Tie as tie
@@ -27,6 +29,10 @@ field-requires-2 c κs = room tt (past 4 tt (c .field .ensures) (all (c .before)
 add-t8 : tie.Need-add-t8
 add-t8 c = omega (arith, value-below _ _ 4 (c .before .before .field .ensures))
 
+-- heads that count as many pins are the same
+as-many : {m n boxes : ℕ} → m ≡ n → NetGroup.Whole (record { pins = m; boxes = boxes }) ≡ NetGroup.Whole (record { pins = n; boxes = boxes })
+as-many e = rw e refl
+
 returns-2 : tie.Need-returns-2
 unfolding netGroup
 returns-2 c =
@@ -35,7 +41,7 @@ returns-2 c =
       c .before .field2 .ensures,
       c .before .before .field .ensures,
     )
-    (rw add-one)
+    (as-many (omega arith))
 
 pub net-group-spec : {M : Type 1} → statement M
 net-group-spec =
