@@ -37,6 +37,10 @@ class Version(unittest.TestCase):
             if file.is_file():
                 self.assertNotIn(version(), file.read_text(), file)
 
+    def test_the_readme_asks_for_the_package_of_this_version(self):
+        asked = re.findall(r"find_package\(maizespell (\S+) REQUIRED\)", (support.ROOT / "README.md").read_text())
+        self.assertEqual(asked, [version().rsplit(".", 1)[0]])
+
     def test_an_installed_tool_has_it_in_a_file(self):
         with tempfile.TemporaryDirectory() as name:
             folder = Path(name) / "a" / "b"

@@ -1,4 +1,5 @@
--- A refusal has a number of the specification's table: no rule of a job refuses by 0, or by 7, which is retired.
+-- A refusal has a number of the specification's table: no rule of a job refuses by 0, or by 7, which is
+-- retired.
 --     inUse, refuses                      the numbers that a call may answer, and those that refuse
 --     Numbered                            of what reading answers
 --     rule-numbered, then-, bind-         of rules and of what follows them
@@ -50,11 +51,12 @@ module _ {A B : Type 0} where
   bind-numbered (good a) next h k = k a
 
 module _ {A : Type 0} {x : Read A} {n p : ℕ} (h : Numbered x) (e : x ≡ refused n p) where
+  -- both tests of a refusal's number
   tested : T (leb 1 n) × T (inUse n)
   unfolding Numbered
   tested = and-holds (leb 1 n) (inUse n) .0 (rw e at h)
 
-  -- its number is not 0
+  -- so it is not 0
   pub numbered-some : 1 ≤ n
   numbered-some = leb→le 1 n (tested .0)
 

@@ -167,8 +167,8 @@ readBox bits g after at = do
   rule 10 at (goodBox g (boxAt bits at))
   good (boxAt bits at)
 
--- "Net: head of 8 bits (pins minus one 4; boxes 4), then pins of 19 bits, then boxes of 38 bits"; "A net of one
--- pin is now accepted"
+-- "Net: head of 8 bits (pins minus one 4; boxes 4), then pins of 19 bits, then boxes of 38 bits"; "A net of
+-- one pin is now accepted"
 unfoldable pub readNet : (bits : List ℕ) → Grid → List Obstacle → (earlier : List Vertex) → (at : ℕ) → Read Net
 readNet bits g obstacles earlier at = do
   wholeGroup bits at 8

@@ -12,6 +12,7 @@
 --     Ties        a plan of the joins that the ties name is routing's
 --     Numbered    a refusal of a plan has a number
 --     Sizes       a plan has at most so many bytes
+--     OnePin      nets of one pin: no record, fully joined
 pub mod TwoWay
 pub mod Moves
 pub mod JoinRead

@@ -1,13 +1,13 @@
 -- A net of one pin "writes no record, counts as fully joined and puts its pin on the map".
 --     OnePin                          of a net
 --     one-pin-joined                  it begins with no pin unjoined
---     one-pin-routed, one-pin-read    so routing it and reading its records write and read nothing, and count it
---     one-pins-routed                 a job of such nets alone: no entry, the pins as metal, and all nets joined
---     one-pins-plan                   its plan has no bytes
+--     one-pin-routed, one-pin-read    so routing writes no record, reading a plan takes none, and both count it
+--     one-pins-routed                 such nets alone: no record, the pins as metal, every net joined
+--     one-pins-plan                   their plan has no bytes
 use Prim.Native.Nat.{ℕ, zero, suc, _+_}
 use mathlib.Core.Path.{_≡_, refl, _∙_}
 use mathlib.Core.List.{List, [], _∷_, map, flatMap}
-use native.Mathlib.Nat.{add-zero}
+use native.Mathlib.Nat.{add-zero, zero-add}
 use native.Mathlib.Omega.{arith}
 use lib.ListN.{length}
 use Rattle.bits.specs.Bits.{packBits, packTo}
@@ -73,9 +73,10 @@ one-pins-nets j k (net ∷ nets) metal totals h =
 
 module _ (j : Job) (h : All OnePin (j .nets)) where
   -- no entry, the pins as metal, and all nets joined
-  pub one-pins-routed : routing j ≡ record { entries = []; metal = metalAtFirst j; totals = withNets (length (j .nets)) noTotals }
-  unfolding routing
-  one-pins-routed = one-pins-nets j 0 (j .nets) (metalAtFirst j) noTotals h
+  pub one-pins-routed : routing j
+      ≡ record { entries = []; metal = metalAtFirst j; totals = record { cost = 0; added = 0; penalties = 0; joined = length (j .nets) } }
+  unfolding routing noTotals
+  one-pins-routed = one-pins-nets j 0 (j .nets) (metalAtFirst j) noTotals h ∙ rw (zero-add (length (j .nets))) refl
 
   -- and no bytes
   pub one-pins-plan : planOf j ≡ []
