@@ -237,7 +237,7 @@ mod tests {
         }
         assert_some(&jobs, "no nets", |job| job.nets.is_empty());
         assert_some(&jobs, "nets of one pin alone", |job| {
-            job.nets.len() > 1 && job.nets.iter().all(|net| net.pins.len() == 1)
+            job.nets.len() > 1 && job.one_pin_nets() == job.nets.len()
         });
         assert_some(&jobs, "many nets", |job| job.nets.len() > 200);
         assert_some(&jobs, "no obstacles", |job| job.obstacles.is_empty());

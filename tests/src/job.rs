@@ -84,6 +84,11 @@ impl Job {
         }
     }
 
+    /// How many nets have one pin, which is none to join.
+    pub fn one_pin_nets(&self) -> usize {
+        self.nets.iter().filter(|net| net.pins.len() == 1).count()
+    }
+
     pub fn largest_min_length(&self) -> u32 {
         let lengths = self.layers.iter().map(|layer| layer.min_length);
         lengths.max().expect("a job has a layer")

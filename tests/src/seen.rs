@@ -50,11 +50,8 @@ impl Seen {
                 self.note(ONE_PIN_WITH_BOXES, u64::from(!net.boxes.is_empty()));
             }
         }
-        let one_pin_each = job.nets.iter().all(|net| net.pins.len() == 1);
-        self.note(
-            ONE_PIN_EACH,
-            u64::from(!job.nets.is_empty() && one_pin_each),
-        );
+        let (one_pin, nets) = (job.one_pin_nets(), job.nets.len());
+        self.note(ONE_PIN_EACH, u64::from(one_pin > 0 && one_pin == nets));
     }
 
     /// What a routed job has of note.

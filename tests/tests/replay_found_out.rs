@@ -1,13 +1,14 @@
 //! The comparison itself: a replay with one small fault is found out.
 
 use maizespell_tests::pairs::Pairs;
+use maizespell_tests::reader::read;
 use maizespell_tests::replay::{replay, Replay};
 
 const SEED: u64 = 12;
 const JOBS: u32 = 25;
 
 /// The second replay with a fault, each with what it does wrong.
-const FAULTY: [(&str, Replay); 10] = [
+const FAULTY: [(&str, Replay); 11] = [
     ("cost one more", |job, plan, map, work| {
         let mut result = replay(job, plan, map, work);
         result.cost += u64::from(result.refusal == 0);
@@ -16,6 +17,13 @@ const FAULTY: [(&str, Replay); 10] = [
     ("nets joined with each penalty", |job, plan, map, work| {
         let mut result = replay(job, plan, map, work);
         result.joined += u64::from(result.penalties > 0);
+        result
+    }),
+    ("nets of one pin not counted", |job, plan, map, work| {
+        let mut result = replay(job, plan, map, work);
+        if let (0, Ok(job)) = (result.refusal, read(job)) {
+            result.joined -= job.one_pin_nets() as u64;
+        }
         result
     }),
     ("added steps left out", |job, plan, map, work| {

@@ -9,7 +9,7 @@ use maizespell_tests::lent::Lent;
 use maizespell_tests::library::{RoutingResult, REPLAY};
 use maizespell_tests::plan::{Join, Record};
 use maizespell_tests::random::Random;
-use maizespell_tests::reader::{read, Refusal};
+use maizespell_tests::reader::{read, Refusal, RETIRED};
 use maizespell_tests::replay::replay;
 use maizespell_tests::router::search::Search;
 use maizespell_tests::router::{one_bound, walk, Routed};
@@ -54,6 +54,11 @@ fn by_one_bound(board: &Board) -> Routed {
     joined_by(board, |net| one_bound::join(board, net))
 }
 
+/// How many nets of one pin there are, in a good job.
+fn one_pin_nets(job: &[u8]) -> u64 {
+    read(job).map_or(0, |job| job.one_pin_nets() as u64)
+}
+
 /// Where this result is a success.
 fn routed(result: &RoutingResult) -> bool {
     result.refusal == 0
@@ -61,7 +66,7 @@ fn routed(result: &RoutingResult) -> bool {
 
 /// The routers that must not pass by the specification, and small faults of every
 /// number and slice.
-const FAULTY: [(&str, Routing); 23] = [
+const FAULTY: [(&str, Routing); 25] = [
     ("none for a reachable pin", |job, map, work, plan| {
         let router = |board: &Board| ending(board, |_, joins| joins > 0);
         routing_by(router, job, map, work, plan)
@@ -124,6 +129,22 @@ const FAULTY: [(&str, Routing); 23] = [
         let mut result = routing(job, map, work, plan);
         result.joined += u64::from(routed(&result));
         result
+    }),
+    ("nets of one pin not counted", |job, map, work, plan| {
+        let mut result = routing(job, map, work, plan);
+        result.joined -= if routed(&result) {
+            one_pin_nets(job)
+        } else {
+            0
+        };
+        result
+    }),
+    ("nets of one pin refused", |job, map, work, plan| {
+        let (number, place) = (RETIRED as u64, 0);
+        if one_pin_nets(job) > 0 {
+            return refused(Refusal { number, place });
+        }
+        routing(job, map, work, plan)
     }),
     ("one byte too many", |job, map, work, plan| {
         let mut result = routing(job, map, work, plan);
