@@ -6,13 +6,13 @@
 --     one-pins-plan                   their plan has no bytes
 use Prim.Native.Nat.{ℕ, zero, suc, _+_}
 use mathlib.Core.Path.{_≡_, refl, _∙_}
-use mathlib.Core.List.{List, [], _∷_, map, flatMap}
+use mathlib.Core.List.{List, [], _∷_, flatMap}
 use native.Mathlib.Nat.{add-zero, zero-add}
 use native.Mathlib.Omega.{arith}
 use lib.ListN.{length}
 use Rattle.bits.specs.Bits.{packBits, packTo}
 use Rattle.job.specs.Lists.{All}
-use Rattle.job.specs.Grid.{Grid, Vertex, vertexNumber}
+use Rattle.job.specs.Grid.{Grid}
 use Rattle.job.specs.Job.{Net, Job}
 use Rattle.job.specs.Reading.{good}
 use Rattle.rules.specs.Views.{pinsOf}
@@ -21,21 +21,20 @@ use Rattle.rules.specs.Routings.{Totals, noTotals, withNet, routeNet, routeNets
 use Rattle.rules.proofs.Routes.{route-all}
 use Rattle.plan.specs.Layout.{planBytes, planOf}
 use Rattle.plan.specs.Reading.{unlessJoined, readNet}
+use Rattle.plan.proofs.Unjoined.{none-left, net-few}
 
 abbrev pub OnePin : Net → Type 0
 OnePin net = length (net .pins) ≡ 1
 
-module _ (g : Grid) (net : Net) (one : OnePin net) (metal : List (List ℕ)) where
-  -- it begins with no pin unjoined, and the metal as it was
-  pub one-pin-joined : (begun (pinsOf g net) metal .unjoined ≡ []) × (begun (pinsOf g net) metal .metal ≡ metal)
-  unfolding pinsOf begun
-  one-pin-joined = by (net .pins) one
-    where
-      by : (pins : List Vertex) → length pins ≡ 1
-          → (begun (map (vertexNumber g) pins) metal .unjoined ≡ []) × (begun (map (vertexNumber g) pins) metal .metal ≡ metal)
-      by [] e = absurd (omega (arith, e))
-      by (p ∷ []) e = (refl, refl)
-      by (p ∷ q ∷ pins) e = absurd (omega (arith, e))
+-- a net begins with the metal as it is
+begun-metal : (pins : List ℕ) (metal : List (List ℕ)) → begun pins metal .metal ≡ metal
+unfolding begun
+begun-metal [] metal = refl
+begun-metal (first ∷ others) metal = refl
+
+-- and one of one pin with none unjoined
+pub one-pin-joined : (g : Grid) (net : Net) → OnePin net → (metal : List (List ℕ)) → begun (pinsOf g net) metal .unjoined ≡ []
+one-pin-joined g net one metal = none-left _ (omega (arith, one, net-few g net metal))
 
 -- no pin is unjoined: no record is read
 read-all : (bits : List ℕ) (j : Job) (k n : ℕ) (s : Standing) (totals : Totals) (at : ℕ) → s .unjoined ≡ []
@@ -48,15 +47,15 @@ module _ (j : Job) (k n : ℕ) (net : Net) (one : OnePin net) (metal : List (Lis
   -- so routing it writes no record
   pub one-pin-routed : routeNet j k n (begun (pinsOf (j .grid) net) metal) totals ≡ record { entries = []; metal = metal; totals = withNet totals }
   one-pin-routed =
-      let (all, same) = one-pin-joined (j .grid) net one metal in
-      route-all j k n (begun (pinsOf (j .grid) net) metal) totals all ∙ rw same refl
+      route-all j k n (begun (pinsOf (j .grid) net) metal) totals (one-pin-joined (j .grid) net one metal)
+      ∙ rw (begun-metal (pinsOf (j .grid) net) metal) refl
 
   -- and reading its records reads no bit
   pub one-pin-read : (bits : List ℕ) (at : ℕ)
       → readNet bits j k n (begun (pinsOf (j .grid) net) metal) totals at ≡ good (record { entries = []; metal = metal; totals = withNet totals; at = at })
   one-pin-read bits at =
-      let (all, same) = one-pin-joined (j .grid) net one metal in
-      read-all bits j k n (begun (pinsOf (j .grid) net) metal) totals at all ∙ rw same refl
+      read-all bits j k n (begun (pinsOf (j .grid) net) metal) totals at (one-pin-joined (j .grid) net one metal)
+      ∙ rw (begun-metal (pinsOf (j .grid) net) metal) refl
 
 -- the totals with so many nets joined
 abbrev withNets : (n : ℕ) → Totals → Totals

@@ -4,11 +4,10 @@ use Prim.Native.Nat.{ℕ, _+_, _-_, _*_, _≤_, _<_}
 use native.Mathlib.Nat.{add-mul}
 use native.Mathlib.Omega.{arith}
 use mathlib.Core.Path.{_≡_, refl, sym, ap, _∙_}
-use mathlib.Core.List.{List, [], _∷_, _++_, map, flatMap}
-use lib.ListN.{length, length-append, length-map}
+use mathlib.Core.List.{List, [], _∷_, _++_, flatMap}
+use lib.ListN.{length, length-append}
 use Rattle.bits.proofs.Laws.{length-fieldBits, length-packBits}
 use Rattle.job.specs.Lists.{All}
-use Rattle.job.specs.Grid.{vertexNumber}
 use Rattle.job.specs.Job.{Net, Job}
 use Rattle.job.specs.Good.{GoodJob}
 use Rattle.rules.specs.Views.{pinsOf}
@@ -25,6 +24,7 @@ use Rattle.plan.specs.Layout.{recordBits, planBytes, planOf}
 use Rattle.plan.specs.Entries.{entryBits}
 use Rattle.plan.specs.Legal.{NetEntries, allJoined, gaveUp, joins, JobEntries, noNets, nextNet}
 use Rattle.plan.specs.Sizes.{mostJoins, mostBytes}
+use Rattle.plan.proofs.Unjoined.{net-few}
 use Rattle.plan.proofs.JoinRead.{length-join}
 use Rattle.plan.proofs.Entries.{all-both, entries-append, length-record, legal-apart, legal-fewer}
 use Rattle.plan.proofs.Routed.{routing-entries}
@@ -72,15 +72,6 @@ module _ {j : Job} (good-j : GoodJob j) where
       let all = one-more size (legal-fewer good-j _ s apart l) in
       omega (arith, one, others, all)
 
-  -- a net begins with all its pins but the first unjoined
-  begun-few : (net : Net) (metal : List (List ℕ)) → length (begun (pinsOf (j .grid) net) metal .unjoined) ≡ length (net .pins) - 1
-  unfolding begun pinsOf
-  begun-few net metal = by (map (vertexNumber (j .grid)) (net .pins)) (length-map (net .pins) (vertexNumber (j .grid)))
-    where
-      by : (ps : List ℕ) → length ps ≡ length (net .pins) → length (begun ps metal .unjoined) ≡ length (net .pins) - 1
-      by [] e = omega (arith, e)
-      by (p ∷ ps) e = omega (arith, e)
-
   -- the records of all nets
   nets-size : {k : ℕ} {nets : List Net} {metal : List (List ℕ)} {es : List Entry} → JobEntries j k nets metal es
       → All (λ net. (m : List (List ℕ)) → Stands (techOf j) (begun (pinsOf (j .grid) net) m)) nets → All (Written j) es
@@ -93,7 +84,7 @@ module _ {j : Job} (good-j : GoodJob j) where
       let rest = nets-size r (apart .1) theirs in
       let pins = length (net .pins) - 1 in
       rw (is, entries-append (j .grid) own others, add-mul pins (mostJoins nets) size)
-      (omega (arith, one, rest, ap (λ (x : ℕ). x * size) (begun-few net metal), length-append (entryBits (j .grid) own) (entryBits (j .grid) others)))
+      (omega (arith, one, rest, ap (λ (x : ℕ). x * size) (net-few (j .grid) net metal), length-append (entryBits (j .grid) own) (entryBits (j .grid) others)))
 
   -- the plan that routing makes of a good job has at most so many bytes
   pub plan-fits : length (planOf j) ≤ mostBytes j

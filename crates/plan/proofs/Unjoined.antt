@@ -2,17 +2,20 @@
 --     without-shorter     a pin taken out leaves fewer
 --     none-left           a list of length 0 is empty
 --     some-left           one that is not empty has a length
---     begun-length        before the first join of a net
-use Prim.Native.Nat.{ℕ, suc, _≤_, _<_}
+--     begun-length        before the first join of a net no more than it has pins
+--     net-few             all its pins but the first
+use Prim.Native.Nat.{ℕ, suc, _-_, _≤_, _<_}
 use mathlib.Core.Path.{_≡_, refl, sym}
 use mathlib.Core.List.{List, [], _∷_}
 use mathlib.Core.Bool.{Bool, true, false}
 use native.Mathlib.Omega.{arith}
-use lib.ListN.{length}
+use lib.ListN.{length, length-map}
 use lib.Dec.{eqb}
 use borrow.Author.Tests.{eqb-false, ne-eqb}
 use Rattle.job.specs.Lists.{any}
-use Rattle.rules.specs.Views.{member}
+use Rattle.job.specs.Grid.{Grid, vertexNumber}
+use Rattle.job.specs.Job.{Net}
+use Rattle.rules.specs.Views.{member, pinsOf}
 use Rattle.rules.specs.Standings.{begun, without}
 use Rattle.rules.proofs.Members.{not-both}
 
@@ -43,11 +46,20 @@ pub none-left : (ps : List ℕ) → length ps ≤ 0 → ps ≡ []
 none-left [] h = refl
 none-left (p ∷ ps) h = absurd (omega arith)
 
--- before the first join of a net no more pins are unjoined than it has
-pub begun-length : (pins : List ℕ) (metal : List (List ℕ)) → length (begun pins metal .unjoined) ≤ length pins
+-- before the first join of a net all its pins but the first are unjoined
+begun-few : (pins : List ℕ) (metal : List (List ℕ)) → length (begun pins metal .unjoined) ≡ length pins - 1
 unfolding begun
-begun-length [] metal = omega arith
-begun-length (first ∷ others) metal = omega arith
+begun-few [] metal = omega arith
+begun-few (first ∷ others) metal = omega arith
+
+-- no more than it has
+pub begun-length : (pins : List ℕ) (metal : List (List ℕ)) → length (begun pins metal .unjoined) ≤ length pins
+begun-length pins metal = omega (arith, begun-few pins metal)
+
+-- as the job counts them
+pub net-few : (g : Grid) (net : Net) (metal : List (List ℕ)) → length (begun (pinsOf g net) metal .unjoined) ≡ length (net .pins) - 1
+unfolding pinsOf
+net-few g net metal = omega (arith, begun-few (pinsOf g net) metal, length-map (net .pins) (vertexNumber g))
 
 -- some are left
 pub some-left : (u : List ℕ) → (u ≡ [] → ⊥) → 1 ≤ length u
