@@ -46,6 +46,11 @@ pub enum Record {
 }
 
 impl Record {
+    /// The record of a join.
+    pub fn of(start: Vertex, moves: &[Move], cost: u64) -> Self {
+        Record::Join(Join::of(start, moves, cost))
+    }
+
     pub fn join(&self) -> Option<&Join> {
         match self {
             Record::Join(join) => Some(join),

@@ -11,7 +11,7 @@ use maizespell_tests::job::{GuideBox, Job, Obstacle, CLOSED};
 use maizespell_tests::joining::Totals;
 use maizespell_tests::library::{ReplayResult, ROUTING};
 use maizespell_tests::marked::{plain, plain_layers};
-use maizespell_tests::plan::{pack, Join, Record};
+use maizespell_tests::plan::{pack, Record};
 use maizespell_tests::reader::Refusal;
 use maizespell_tests::replay::{refused, succeeded};
 use maizespell_tests::routing::routed_by;
@@ -40,10 +40,6 @@ fn pin_at(row: u32) -> [Vertex; 2] {
     [vertex(0, row, 0), vertex(1, row, 0)]
 }
 
-fn join(start: Vertex, moves: &[Move], cost: u64) -> Record {
-    Record::Join(Join::of(start, moves, cost))
-}
-
 /// What the library answers to a plan, and the rows of layer 1 in its map; the second replay
 /// must answer the same.
 fn replayed(job: &Job, records: &[Record]) -> (ReplayResult, Vec<u16>) {
@@ -68,7 +64,7 @@ fn check(job: &Job, records: &[Record], layer_1: &[u16], totals: Totals) {
 #[test]
 fn the_rest_is_laid_at_the_starting_end() {
     let job = tower(8, 6, &[&through(4, 6)]);
-    let up = join(vertex(0, 4, 0), &[Up, High, High, Up], 10);
+    let up = Record::of(vertex(0, 4, 0), &[Up, High, High, Up], 10);
     check(
         &job,
         &[up],
@@ -76,7 +72,7 @@ fn the_rest_is_laid_at_the_starting_end() {
         Totals::of(10, 4, 0, 1),
     );
     let job = tower(8, 6, &[&through(3, 1)]);
-    let up = join(vertex(0, 3, 0), &[Up, Low, Low, Up], 10);
+    let up = Record::of(vertex(0, 3, 0), &[Up, Low, Low, Up], 10);
     check(
         &job,
         &[up],
@@ -88,29 +84,29 @@ fn the_rest_is_laid_at_the_starting_end() {
 #[test]
 fn all_is_laid_at_the_starting_end_where_the_leaving_end_has_no_room() {
     let job = tower(5, 3, &[&through(3, 4)]);
-    let up = join(vertex(0, 3, 0), &[Up, High, Up], 7);
+    let up = Record::of(vertex(0, 3, 0), &[Up, High, Up], 7);
     check(&job, &[up], &[0, 1, 1, 1, 1], Totals::of(7, 2, 0, 1));
     let job = tower(5, 3, &[&through(1, 0)]);
-    let up = join(vertex(0, 1, 0), &[Up, Low, Up], 7);
+    let up = Record::of(vertex(0, 1, 0), &[Up, Low, Up], 7);
     check(&job, &[up], &[1, 1, 1, 1, 0], Totals::of(7, 2, 0, 1));
 }
 
 #[test]
 fn nothing_is_behind_a_segment_that_starts_at_the_end_of_its_track() {
-    let up = |cost| join(vertex(0, 0, 0), &[Up, High, Up], cost);
+    let up = |cost| Record::of(vertex(0, 0, 0), &[Up, High, Up], cost);
     let job = tower(4, 3, &[&through(0, 1)]);
     check(&job, &[up(7)], &[1, 1, 1, 1], Totals::of(7, 2, 0, 1));
     let job = tower(3, 3, &[&through(0, 1)]);
     check(&job, &[up(55)], &[1, 1, 0], Totals::of(55, 0, 1, 1));
     let job = tower(3, 3, &[&through(2, 1)]);
-    let down = join(vertex(0, 2, 0), &[Up, Low, Up], 55);
+    let down = Record::of(vertex(0, 2, 0), &[Up, Low, Up], 55);
     check(&job, &[down], &[0, 1, 1], Totals::of(55, 0, 1, 1));
 }
 
 #[test]
 fn a_fresh_segment_takes_high_then_low() {
     let check_at = |row, layer_1| {
-        let up = join(vertex(0, row, 0), &[Up, Up], 7);
+        let up = Record::of(vertex(0, row, 0), &[Up, Up], 7);
         let job = tower(6, 3, &[&through(row, row)]);
         check(&job, &[up], layer_1, Totals::of(7, 3, 0, 1));
     };
@@ -119,7 +115,7 @@ fn a_fresh_segment_takes_high_then_low() {
     check_at(4, &[0, 0, 1, 1, 1, 1]);
     check_at(5, &[0, 0, 1, 1, 1, 1]);
     let job = tower(3, 3, &[&through(1, 1)]);
-    let up = join(vertex(0, 1, 0), &[Up, Up], 54);
+    let up = Record::of(vertex(0, 1, 0), &[Up, Up], 54);
     check(&job, &[up], &[0, 1, 0], Totals::of(54, 0, 1, 1));
 }
 
@@ -131,7 +127,7 @@ fn check_two(
     (added, penalties): (u64, u64),
 ) {
     let job = tower(8, 3, &[&nets[0], &nets[1]]);
-    let made = |net: usize| join(nets[net][0], joins[net].0, joins[net].1);
+    let made = |net: usize| Record::of(nets[net][0], joins[net].0, joins[net].1);
     let cost = joins[0].1 + joins[1].1;
     let totals = Totals::of(cost, added, penalties, 2);
     check(&job, &[made(0), made(1)], layer_1, totals);
@@ -174,7 +170,7 @@ fn each_end_stops_at_its_own_first_vertex_that_is_not_clear() {
             start: vertex(1, obstacle, 0),
             run: 1,
         });
-        let up = join(vertex(0, 4, 0), &[Up, High, Up], cost);
+        let up = Record::of(vertex(0, 4, 0), &[Up, High, Up], cost);
         let penalties = u64::from(added == 0);
         check(&job, &[up], layer_1, Totals::of(cost, added, penalties, 1));
     };
@@ -199,8 +195,8 @@ fn an_own_pin_behind_is_clear_and_stays_unjoined() {
         high: vertex(2, 4, 0),
     });
     let records = [
-        join(vertex(0, 3, 0), &[Up, High, Up], 7),
-        join(vertex(1, 3, 0), &[Low], 11),
+        Record::of(vertex(0, 3, 0), &[Up, High, Up], 7),
+        Record::of(vertex(1, 3, 0), &[Low], 11),
     ];
     check(&job, &records, &[0, 1, 1, 1, 1], Totals::of(18, 2, 0, 1));
 }
@@ -211,12 +207,12 @@ fn an_own_pin_behind_is_clear_and_stays_unjoined() {
 fn own_metal_behind_is_clear_unless_another_net_covers_it() {
     let pins = [vertex(0, 2, 0), vertex(2, 3, 0), vertex(2, 1, 0)];
     let job = tower(7, 3, &[&through(6, 6), &pins]);
-    let high = |cost| join(pins[0], &[Up, High, Up], cost);
-    let low = |cost| join(pins[0], &[Up, Low, Up], cost);
+    let high = |cost| Record::of(pins[0], &[Up, High, Up], cost);
+    let low = |cost| Record::of(pins[0], &[Up, Low, Up], cost);
     let alone = replayed(&job, &[Record::NoJoin, high(7), low(7)]);
     let layer_1 = vec![2, 2, 2, 2, 2, 2, 0];
     assert_eq!(alone, (succeeded(Totals::of(14, 4, 0, 1)), layer_1));
-    let other = join(vertex(0, 6, 0), &[Up, Up], 7);
+    let other = Record::of(vertex(0, 6, 0), &[Up, Up], 7);
     let covered = replayed(&job, &[other, high(27), low(55)]);
     let layer_1 = vec![2, 2, 2, 256, 1, 1, 1];
     assert_eq!(covered, (succeeded(Totals::of(89, 5, 1, 2)), layer_1));
@@ -231,7 +227,7 @@ fn a_closed_area_penalty_forbids_where_both_ends_are_too_short() {
         }
         job
     };
-    let up = join(vertex(0, 1, 0), &[Up, High, Up], 7);
+    let up = Record::of(vertex(0, 1, 0), &[Up, High, Up], 7);
     check(
         &closed(4),
         &[up.clone()],

@@ -10,17 +10,13 @@ use maizespell_tests::job::{GuideBox, Job, Obstacle, MOST_NETS};
 use maizespell_tests::joining::Totals;
 use maizespell_tests::library;
 use maizespell_tests::marked::{plain, plain_layers};
-use maizespell_tests::plan::{pack, Join, Record};
+use maizespell_tests::plan::{pack, Record};
 use maizespell_tests::reader::Refusal;
 use maizespell_tests::replay::{refused, succeeded};
 use maizespell_tests::routing::{self, routed_by};
 use maizespell_tests::rules::board::Board;
-use maizespell_tests::rules::moves::Move::{self, Down, High, Low, Up};
+use maizespell_tests::rules::moves::Move::{Down, High, Low, Up};
 use maizespell_tests::sizing;
-
-fn join(start: Vertex, moves: &[Move], cost: u64) -> Record {
-    Record::Join(Join::of(start, moves, cost))
-}
 
 /// Routing makes these records, and both calls end with these totals and with a map that is bare
 /// but for these vertices.
@@ -56,8 +52,8 @@ fn first_last_and_between() {
     let near = [vertex(0, 1, 6), vertex(0, 1, 7)];
     let job = plain(&[&SPARE[..1], &A, &SPARE[1..2], &near, &SPARE[2..]]);
     let records = [
-        join(A[0], &[High, High, High], 3),
-        join(near[0], &[High], 1),
+        Record::of(A[0], &[High, High, High], 3),
+        Record::of(near[0], &[High], 1),
     ];
     let wire = [0, 1, 2, 3].map(|column| vertex(0, 0, column));
     let metal = [
@@ -158,7 +154,7 @@ fn other_nets_go_around_the_pin() {
         metal(2, &row),
         metal(2, &columns.concat()),
     ];
-    let records = [join(A[0], &around, 17)];
+    let records = [Record::of(A[0], &around, 17)];
     let totals = Totals::of(17, 0, 0, 2);
     check(&plain(&[&pin, &A]), &records, totals, &metal.concat());
 }
@@ -174,7 +170,7 @@ fn the_pin_stops_an_extension() {
     };
     let rows = [0, 1, 2, 3].map(|row| vertex(1, row, 0));
     let extended = [metal(1, &through), metal(1, &rows)];
-    let records = [join(through[0], &[Up, Up], 7)];
+    let records = [Record::of(through[0], &[Up, Up], 7)];
     let totals = Totals::of(7, 3, 0, 1);
     check(&tower(&[&through]), &records, totals, &extended.concat());
     let stopped = [
@@ -182,7 +178,7 @@ fn the_pin_stops_an_extension() {
         metal(1, &rows[..1]),
         metal(2, &rows[3..]),
     ];
-    let records = [join(through[0], &[Up, Up], 54)];
+    let records = [Record::of(through[0], &[Up, Up], 54)];
     let totals = Totals::of(54, 0, 1, 2);
     check(
         &tower(&[&through, &rows[3..]]),

@@ -7,7 +7,7 @@ use maizespell_tests::job::Job;
 use maizespell_tests::joining::Totals;
 use maizespell_tests::library::ReplayResult;
 use maizespell_tests::marked;
-use maizespell_tests::plan::{pack, Join, Record};
+use maizespell_tests::plan::{pack, Record};
 use maizespell_tests::reader::Refusal;
 use maizespell_tests::replay::{refused, succeeded};
 use maizespell_tests::rules::moves::Move::{self, Down, High, Low, Up};
@@ -31,13 +31,9 @@ fn success(cost: u64, added: u64, penalties: u64, joined: u64) -> ReplayResult {
     succeeded(Totals::of(cost, added, penalties, joined))
 }
 
-fn join(start: Vertex, moves: &[Move], cost: u64) -> Record {
-    Record::Join(Join::of(start, moves, cost))
-}
-
 /// The answer to job A with one join.
 fn answer_to_a(start: Vertex, moves: &[Move], cost: u64) -> ReplayResult {
-    answer(&marked::a(), &pack(&[join(start, moves, cost)]))
+    answer(&marked::a(), &pack(&[Record::of(start, moves, cost)]))
 }
 
 #[test]
@@ -141,7 +137,7 @@ fn a_pin_entered_early_or_not_at_all() {
     let start = vertex(0, 0, 0);
     assert_eq!(answer_to_a(start, &[High; 2], 2), refusal(17, 42));
     assert_eq!(answer_to_a(start, &[High; 4], 4), refusal(17, 44));
-    let mut plan = pack(&[join(start, &[High; 8], 8)]);
+    let mut plan = pack(&[Record::of(start, &[High; 8], 8)]);
     plan.truncate(6);
     assert_eq!(answer(&marked::a(), &plan), refusal(17, 44));
 }
@@ -166,8 +162,8 @@ fn a_dearer_join_is_replayed() {
 /// Without net 1's wire net 2 pays no short.
 #[test]
 fn a_later_net_sees_what_the_plan_has_laid() {
-    let net_1 = join(vertex(1, 0, 0), &[High, High], 2);
-    let net_2 = |cost| join(vertex(0, 1, 0), &[Up, Up], cost);
+    let net_1 = Record::of(vertex(1, 0, 0), &[High, High], 2);
+    let net_2 = |cost| Record::of(vertex(0, 1, 0), &[Up, Up], cost);
     let k = marked::k();
     let after = |first: &Record, cost| answer(&k, &pack(&[first.clone(), net_2(cost)]));
     assert_eq!(after(&net_1, 74), success(76, 0, 1, 2));
@@ -184,11 +180,11 @@ fn a_later_net_sees_what_the_plan_has_laid() {
 fn an_extension_joins_nothing() {
     let mut job = marked::b();
     job.nets[0].pins.push(vertex(1, 3, 3));
-    let b = join(vertex(0, 0, 0), &[High, High, High, Up, High, Down], 10);
+    let b = Record::of(vertex(0, 0, 0), &[High, High, High, Up, High, Down], 10);
     let one_join = pack(&[b.clone(), Record::NoJoin]);
     assert_eq!(answer(&job, &one_join), success(10, 2, 0, 0));
     let from = |start, moves: &[Move], cost| {
-        let plan = [b.clone(), join(start, moves, cost)];
+        let plan = [b.clone(), Record::of(start, moves, cost)];
         answer(&job, &pack(&plan))
     };
     assert_eq!(from(vertex(1, 2, 3), &[High], 1), refusal(16, 92 + 1));

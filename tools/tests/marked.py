@@ -1,7 +1,11 @@
 """The twelve marked jobs, A to L, by their bytes, and the records that routing them writes."""
 
+from dataclasses import replace
+
 import support  # noqa: F401
 from maizetext.grid import DOWN, HIGH, UP, Vertex
+from maizetext.job import Job, Net
+from maizetext.job_reading import read_job
 from maizetext.plan import Join, pack_plan
 
 JOBS = {
@@ -45,3 +49,8 @@ def job_bytes(letter: str) -> bytes:
 def plan_bytes(letter: str) -> bytes:
     """Its plan's bytes."""
     return pack_plan(RECORDS[letter])
+
+
+def plain(*pins: tuple[Vertex, ...]) -> Job:
+    """A's job with other nets, without boxes, by their pins."""
+    return replace(read_job(job_bytes("A")), nets=tuple(Net(of_net, ()) for of_net in pins))

@@ -3,7 +3,6 @@
 import unittest
 import xml.etree.ElementTree as ElementTree
 from collections import Counter
-from dataclasses import replace
 from random import Random
 
 import support
@@ -11,13 +10,13 @@ from generated import good_job
 from maizetext.colours import net_colour
 from maizetext.draw import draw
 from maizetext.grid import UP, Vertex
-from maizetext.job import Job, Net
+from maizetext.job import Job
 from maizetext.job_reading import read_job
 from maizetext.panel import Panel
 from maizetext.plan import Join, pack_plan
 from maizetext.replay import replay
 from maizetext.text_reading import read_text
-from marked import RECORDS, job_bytes, plan_bytes
+from marked import RECORDS, job_bytes, plain, plan_bytes
 from tracks import ONE_STEP_UP, VIA, WIRE, on_track, track, track_of
 
 SVG = "{http://www.w3.org/2000/svg}"
@@ -64,8 +63,7 @@ class Pictures(unittest.TestCase):
         self.counted("K", pin=4, wire=1, via_up=2, via_down=2, short=1)
 
     def test_a_net_of_one_pin(self):
-        job = read_job(job_bytes("A"))
-        job = replace(job, nets=(*job.nets, Net((Vertex(1, 3, 7),), ())))
+        job = plain((Vertex(0, 0, 0), Vertex(0, 0, 3)), (Vertex(1, 3, 7),))
         for found in (marks(draw(job, None)), marks(draw(job, replay(job, plan_bytes("A"))))):
             self.assertEqual((found["pin"], found["pin open"]), (3, 0))
 

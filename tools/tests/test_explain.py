@@ -1,15 +1,13 @@
 """A plan in words."""
 
 import unittest
-from dataclasses import replace
 
 import support  # noqa: F401
 from maizetext.explain import explain
 from maizetext.grid import HIGH, LOW, UP, Vertex
-from maizetext.job import Net
 from maizetext.job_reading import read_job
 from maizetext.plan import Join, pack_plan
-from marked import LETTERS, RECORDS, job_bytes, plan_bytes
+from marked import LETTERS, RECORDS, job_bytes, plain, plan_bytes
 from tracks import ONE_STEP_UP, track
 
 B = """\
@@ -72,8 +70,7 @@ class Explained(unittest.TestCase):
         self.assertEqual(said[3:], ["net 2: pins (0,1,0) (2,1,0)", "  join 1 from (0,1,0)", "  joined: cost 74"])
 
     def test_a_net_of_one_pin_is_joined(self):
-        job = read_job(job_bytes("A"))
-        text, legal = explain(replace(job, nets=(Net((Vertex(1, 3, 7),), ()), *job.nets)), plan_bytes("A"))
+        text, legal = explain(plain((Vertex(1, 3, 7),), (Vertex(0, 0, 0), Vertex(0, 0, 3))), plan_bytes("A"))
         self.assertTrue(legal)
         self.assertEqual(text.splitlines()[1:4], ["net 1: pins (1,3,7)", "  joined: cost 0", "net 2: pins (0,0,0) (0,0,3)"])
         self.assertIn("nets fully joined 2 of 2\n", text)

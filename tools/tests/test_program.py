@@ -2,16 +2,14 @@
 
 import os
 import unittest
-from dataclasses import replace
 
 import support  # noqa: F401
 from maizetext.errors import InputError
-from maizetext.job import Net
+from maizetext.grid import Vertex
 from maizetext.job_packing import pack_job
-from maizetext.job_reading import read_job
 from maizetext.route import plan_by_program, program_path, summary
 from maizetext.text_reading import read_text
-from marked import LETTERS, job_bytes, plan_bytes
+from marked import LETTERS, job_bytes, plain, plan_bytes
 from support import EXAMPLES
 
 PROGRAM = program_path(None)
@@ -33,8 +31,7 @@ class WithProgram(unittest.TestCase):
         self.assertEqual(routed("crossing.txt"), bytes.fromhex((EXAMPLES / "crossing.plan").read_text()))
 
     def test_nets_of_one_pin_alone_have_a_plan_of_no_bytes(self):
-        job = read_job(job_bytes("A"))
-        alone = replace(job, nets=tuple(Net((pin,), ()) for pin in job.nets[0].pins))
+        alone = plain((Vertex(0, 0, 0),), (Vertex(1, 3, 7),))
         plan = plan_by_program(PROGRAM, "alone", pack_job(alone))
         self.assertEqual(plan, b"")
         self.assertEqual(summary(alone, plan, "the program").splitlines()[1:], [

@@ -3,16 +3,12 @@
 import unittest
 
 import support
-from maizetext.grid import DOWN, HIGH, LOW, UP, Grid, Vertex
-from maizetext.job import Job, Layer, Net
+from maizetext.grid import DOWN, HIGH, LOW, UP, Vertex
 from maizetext.job_reading import read_job
 from maizetext.plan import Join, pack_plan
 from maizetext.refusals import Refused
 from maizetext.replay import replay
-from marked import LETTERS, job_bytes, plan_bytes
-
-GRID = Grid(0, 2, 4, 8)
-LAYERS = (Layer(1, 2, 3, 50), Layer(1, 0, 3, 50))
+from marked import LETTERS, job_bytes, plain, plan_bytes
 
 COSTS = {"A": 3, "B": 10, "C": 58, "D": 0, "E": 7, "F": 54, "G": 0, "H": 7, "I": 10, "J": 13, "K": 76, "L": 2}
 
@@ -69,7 +65,7 @@ class OnePin(unittest.TestCase):
     """A net of one pin has no record and is joined; its pin is in the way of others."""
 
     def test_alone(self):
-        job = Job(GRID, 10, 20, LAYERS, (), (Net((Vertex(0, 0, 1),), ()), Net((Vertex(1, 3, 7),), ())))
+        job = plain((Vertex(0, 0, 1),), (Vertex(1, 3, 7),))
         trace = replay(job, b"")
         self.assertEqual((trace.broken, trace.joined(), trace.total("cost")), (None, 2, 0))
         self.assertEqual([(net.joins, net.open_pins, net.ended_by_none) for net in trace.nets], [([], [], False)] * 2)
@@ -77,13 +73,13 @@ class OnePin(unittest.TestCase):
         self.assertEqual((broken.number, broken.place), (15, 0))
 
     def test_before_and_after_another_net(self):
-        wire, spare = Net((Vertex(0, 0, 0), Vertex(0, 0, 3)), ()), Net((Vertex(0, 0, 1),), ())
+        wire, spare = (Vertex(0, 0, 0), Vertex(0, 0, 3)), (Vertex(0, 0, 1),)
         plan = pack_plan([Join(Vertex(0, 0, 0), (HIGH,) * 3, 3)])
         for nets, number in (((wire, spare), 2), ((spare, wire), 1)):
-            trace = replay(Job(GRID, 10, 20, LAYERS, (), nets), plan)
+            trace = replay(plain(*nets), plan)
             self.assertEqual((trace.broken.number, trace.broken.place), (17, 40))
             self.assertIn(f"(0,0,1) is a pin of net {number}", str(trace.broken))
-            self.assertIsNone(replay(Job(GRID, 10, 20, LAYERS, (), nets), b"\x00").broken)
+            self.assertIsNone(replay(plain(*nets), b"\x00").broken)
 
 
 class MarkedPlans(unittest.TestCase):

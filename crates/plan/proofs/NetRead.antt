@@ -1,5 +1,6 @@
 -- Reading the records of a net: good exactly where their bits stand there and they are a net's entries.
 --     unless-some, flag-good          records are read while a pin is unjoined, each by its flag
+--     read-all                        with none unjoined, no record is read
 --     NetAt, net-good                 the records of a net that are read as good
 --     netTotals, readTo, net-read     the entries of a net are read, with the totals after them
 use Prim.Native.Nat.{ℕ, zero, suc, _+_, _≤_, _<_}
@@ -63,6 +64,13 @@ doneAt s totals at = record { entries = []; metal = s .metal; totals = withNet t
 abbrev endedAt : (k : ℕ) → Standing → Totals → (at : ℕ) → Progress
 endedAt k s totals at =
     record { entries = record { net = k; before = s; written = none } ∷ []; metal = s .metal; totals = totals; at = at + 1 }
+
+-- with none unjoined, no record is read
+pub read-all : (bits : List ℕ) (j : Job) (k n : ℕ) (s : Standing) (totals : Totals) (at : ℕ) → s .unjoined ≡ []
+    → readNet bits j k n s totals at ≡ good (doneAt s totals at)
+unfolding readNet unlessJoined
+read-all bits j k zero s totals at all = refl
+read-all bits j k (suc n) s totals at all = rw all refl
 
 -- the entry of a join that was read
 abbrev joinedEntry : (k : ℕ) → Standing → JoinRead → Entry
@@ -173,9 +181,8 @@ module _ (B : List ℕ) (bits : AllBelow 2 B) {j : Job} (good-j : GoodJob j) (k 
   -- no entries
   none-read : (n : ℕ) (s : Standing) (totals : Totals) (at : ℕ) → s .unjoined ≡ []
       → readNet B j k n s totals at ≡ good (readTo (j .grid) at [] (s .metal) (withNet totals))
-  unfolding readNet unlessJoined flatMap
-  none-read zero s totals at all = rw add-zero
-  none-read (suc n) s totals at all = rw (all, add-zero)
+  unfolding flatMap
+  none-read n s totals at all = read-all B j k n s totals at all ∙ rw add-zero
 
   -- where a pin is unjoined, a record is read
   flagged-read : (n : ℕ) (s : Standing) (totals : Totals) (at : ℕ) (p : Progress) → (s .unjoined ≡ [] → ⊥) → T (whole B at 1)

@@ -4,7 +4,7 @@
 --     one-pin-routed, one-pin-read    so routing writes no record, reading a plan takes none, and both count it
 --     one-pins-routed                 such nets alone: no record, the pins as metal, every net joined
 --     one-pins-plan                   their plan has no bytes
-use Prim.Native.Nat.{ℕ, zero, suc, _+_}
+use Prim.Native.Nat.{ℕ, suc, _+_}
 use mathlib.Core.Path.{_≡_, refl, _∙_}
 use mathlib.Core.List.{List, [], _∷_, flatMap}
 use native.Mathlib.Nat.{add-zero, zero-add}
@@ -16,32 +16,21 @@ use Rattle.job.specs.Grid.{Grid}
 use Rattle.job.specs.Job.{Net, Job}
 use Rattle.job.specs.Reading.{good}
 use Rattle.rules.specs.Views.{pinsOf}
-use Rattle.rules.specs.Standings.{Standing, metalAtFirst, begun}
+use Rattle.rules.specs.Standings.{metalAtFirst, begun}
 use Rattle.rules.specs.Routings.{Totals, noTotals, withNet, routeNet, routeNets, routing}
+use Rattle.rules.proofs.Standing.{begun-metal}
 use Rattle.rules.proofs.Routes.{route-all}
 use Rattle.plan.specs.Layout.{planBytes, planOf}
-use Rattle.plan.specs.Reading.{unlessJoined, readNet}
+use Rattle.plan.specs.Reading.{readNet}
 use Rattle.plan.proofs.Unjoined.{none-left, net-few}
+use Rattle.plan.proofs.NetRead.{read-all}
 
 abbrev pub OnePin : Net → Type 0
 OnePin net = length (net .pins) ≡ 1
 
--- a net begins with the metal as it is
-begun-metal : (pins : List ℕ) (metal : List (List ℕ)) → begun pins metal .metal ≡ metal
-unfolding begun
-begun-metal [] metal = refl
-begun-metal (first ∷ others) metal = refl
-
--- and one of one pin with none unjoined
+-- it begins with no pin unjoined
 pub one-pin-joined : (g : Grid) (net : Net) → OnePin net → (metal : List (List ℕ)) → begun (pinsOf g net) metal .unjoined ≡ []
 one-pin-joined g net one metal = none-left _ (omega (arith, one, net-few g net metal))
-
--- no pin is unjoined: no record is read
-read-all : (bits : List ℕ) (j : Job) (k n : ℕ) (s : Standing) (totals : Totals) (at : ℕ) → s .unjoined ≡ []
-    → readNet bits j k n s totals at ≡ good (record { entries = []; metal = s .metal; totals = withNet totals; at = at })
-unfolding readNet unlessJoined
-read-all bits j k zero s totals at none = refl
-read-all bits j k (suc n) s totals at none = rw none refl
 
 module _ (j : Job) (k n : ℕ) (net : Net) (one : OnePin net) (metal : List (List ℕ)) (totals : Totals) where
   -- so routing it writes no record

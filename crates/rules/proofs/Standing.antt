@@ -1,4 +1,5 @@
 -- The tree and the unjoined pins are apart in every standing.
+--     begun-metal                  a net begins with the metal that stands
 --     fails                        a test that fails, as an equation
 --     begun-apart                  before the first join of a net
 --     nets-apart                   of every net of a good job
@@ -32,6 +33,12 @@ use Rattle.rules.proofs.Members.{not-both, neither, member-none, member
 use Rattle.rules.proofs.Walks.{Passed, Walks, route-walk}
 
 -- ---- before the first join
+
+-- a net begins with the metal that stands
+pub begun-metal : (ps : List ℕ) (metal : List (List ℕ)) → begun ps metal .metal ≡ metal
+unfolding begun
+begun-metal [] metal = refl
+begun-metal (p ∷ ps) metal = refl
 
 -- a test that fails, as an equation
 pub fails : (b : Bool) → T (not b) → b ≡ false

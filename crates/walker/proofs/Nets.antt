@@ -33,7 +33,7 @@ use Rattle.rules.specs.Standings.{metalAtFirst, begun}
 use Rattle.rules.specs.Apart.{Stands}
 use Rattle.rules.specs.Structs.{techBy}
 use Rattle.rules.specs.declared.price.Tech.{Tech as TechStruct}
-use Rattle.rules.proofs.Standing.{nets-apart}
+use Rattle.rules.proofs.Standing.{begun-metal, nets-apart}
 use Rattle.metal.specs.Codes.{Codes, Beyond}
 use Rattle.metal.proofs.Slices.{beyond-refl}
 use Rattle.metal.proofs.Nets.{JobFits, job-fits, NetHeld, net-held}
@@ -47,12 +47,6 @@ use Rattle.walker.specs.Entering.{Arrays}
 use Rattle.walker.specs.Standing.{AtNet}
 use Rattle.walker.specs.Structs.{NetsHeld}
 use Rattle.walker.proofs.Metals.{Later, holds-at}
-
--- a net begins with the metal that stands
-pub begun-metal : (ps : List ℕ) (metal : List (List ℕ)) → begun ps metal .metal ≡ metal
-unfolding begun
-begun-metal [] metal = refl
-begun-metal (p ∷ ps) metal = refl
 
 -- no element
 pub empty : {A : Type 0} (l : List A) → length l ≤ 0 → l ≡ []
