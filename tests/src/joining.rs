@@ -141,6 +141,7 @@ impl<'a> NetAtHand<'a> {
 }
 
 /// Legal moves from a vertex of the tree, as far as they have come.
+#[derive(Clone)]
 pub struct Walk {
     pub place: Place,
     pub cost: u64,
@@ -158,6 +159,11 @@ impl Walk {
             extensions: Vec::new(),
             penalties: 0,
         }
+    }
+
+    /// The vertices that its moves entered: the start is no entry.
+    pub fn entered(&self) -> &[usize] {
+        &self.vertices[1..]
     }
 
     pub fn extensions(&self) -> &[Extension] {

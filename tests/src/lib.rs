@@ -1,7 +1,7 @@
 //! Checks the library's calls against a second implementation, written from the
 //! specification alone.
 //!
-//! - Jobs are data (`job`), made by hand (`marked`, `largest`) or at random
+//! - Jobs are data (`job`, with the box test in `guide`), made by hand (`marked`, `largest`) or at random
 //!   (`generate`), and plans are too (`plan`, `wander`); `damage` makes both bad.
 //! - The second implementation reads jobs (`reader`, `sizing`), has the rules of
 //!   moves (`rules`) and nets (`joining`), searches joins (`router`) and has the calls
@@ -22,6 +22,7 @@ pub mod fuzz;
 pub mod generate;
 pub mod grid;
 pub mod guarded;
+pub mod guide;
 pub mod host;
 pub mod job;
 pub mod joining;

@@ -10,7 +10,6 @@ use std::convert::Infallible;
 use crate::joining::{join_nets, Joined, NetAtHand, Walk};
 use crate::plan::{Join, Record};
 use crate::rules::board::Board;
-use crate::rules::step::Extension;
 use left::Left;
 use search::Search;
 
@@ -66,16 +65,16 @@ pub fn walk(board: &Board, net: &NetAtHand, join: &Join) -> Walk {
     walk
 }
 
-/// The extensions of a plan that is known to be legal, in order.
-pub fn extensions(board: &Board, records: &[Record]) -> Vec<Extension> {
+/// The walks of a plan that is known to be legal, in order, each with its net's number.
+pub fn walks(board: &Board, records: &[Record]) -> Vec<(u16, Walk)> {
     let mut records = records.iter();
-    let mut extensions = Vec::new();
+    let mut walks = Vec::new();
     let joined = join_nets(board, |net| {
         let join = records.next().and_then(Record::join);
         let walk = join.map(|join| walk(board, net, join));
-        extensions.extend(walk.iter().flat_map(Walk::extensions));
+        walks.extend(walk.clone().map(|walk| (net.number(), walk)));
         Ok::<_, Infallible>(walk)
     });
     let Ok(_) = joined;
-    extensions
+    walks
 }

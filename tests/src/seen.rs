@@ -3,9 +3,11 @@
 use std::collections::BTreeMap;
 use std::fmt;
 
+use crate::guide::Axis;
 use crate::job::{Job, CLOSED};
+use crate::joining::Walk;
 use crate::plan::Record;
-use crate::router::{extensions, Routed};
+use crate::router::{walks, Routed};
 use crate::rules::board::Board;
 use crate::rules::metal::SEVERAL;
 use crate::rules::segment::Segment;
@@ -69,14 +71,35 @@ impl Seen {
         self.note("routed: added steps", totals.added);
         self.note("routed: penalised segments", totals.penalties);
         self.note("routed: jobs with shorts", u64::from(shared));
-        for extension in extensions(board, &routed.records) {
-            self.note(laid(&extension), 1);
+        for (net, walk) in walks(board, &routed.records) {
+            for extension in walk.extensions() {
+                self.note(laid(extension), 1);
+            }
+            self.boxes(board.job, net, &walk);
+        }
+    }
+
+    /// What each of a net's boxes says of each vertex that a walk enters.
+    fn boxes(&mut self, job: &Job, net: u16, walk: &Walk) {
+        let grid = job.grid();
+        for number in walk.entered() {
+            let at = grid.numbered(*number as u32);
+            for guide in &job.nets[net as usize - 1].boxes {
+                self.note(verdict(guide.outside_by(at)), 1);
+            }
         }
     }
 
     /// Fails where an extension of some kind came up less often than this.
     pub fn assert_extensions(&self, least: u64) {
         LAID.iter().for_each(|what| self.assert_often(what, least));
+    }
+
+    /// Fails where some axis of a box said no, or none did, less often than this.
+    pub fn assert_boxes(&self, least: u64) {
+        VERDICTS
+            .iter()
+            .for_each(|what| self.assert_often(what, least));
     }
 
     /// Fails where a kind of net of one pin came up less often than this.
@@ -108,7 +131,25 @@ impl Seen {
         ];
         more.iter().for_each(|what| self.assert_often(what, least));
         self.assert_extensions(least);
+        self.assert_boxes(least);
         self.assert_one_pin(least);
+    }
+}
+
+/// What a box says of a vertex.
+const VERDICTS: [&str; 4] = [
+    "box: inside",
+    "box: outside by the layer",
+    "box: outside by the row",
+    "box: outside by the column",
+];
+
+fn verdict(outside_by: Option<Axis>) -> &'static str {
+    match outside_by {
+        None => VERDICTS[0],
+        Some(Axis::Layer) => VERDICTS[1],
+        Some(Axis::Row) => VERDICTS[2],
+        Some(Axis::Column) => VERDICTS[3],
     }
 }
 

@@ -14,7 +14,7 @@ use native.Mathlib.Omega.{arith}
 use lib.ListN.{length, getD, set, length-set}
 use lib.Dec.{eqb}
 use borrow.Author.Count.{below-more}
-use Rattle.job.specs.declared.groups.Span.{Span}
+use Rattle.bounds.specs.declared.fill.PinSpan.{PinSpan}
 use Rattle.job.proofs.Sizes.{product-within}
 use Rattle.rules.proofs.Fitting.{one-more}
 use Rattle.tree.proofs.Spots.{set-at}
@@ -23,13 +23,13 @@ use Rattle.bounds.specs.Bounds.{SmallBounds}
 use Rattle.bounds.specs.Fills.{cheapestOf, leaves, axisFilled}
 
 -- both ends are inside
-pub record Within (span : Span) (at : ℕ) : Type 0 where
+pub record Within (span : PinSpan) (at : ℕ) : Type 0 where
   pub low : span .low ≤ at
   pub high : at ≤ span .high
 
 -- ---- what a coordinate leaves
 
-module _ (span : Span) (price : ℕ) where
+module _ (span : PinSpan) (price : ℕ) where
   module _ (at : ℕ) (near : span .low ≤ 255) (cheap : price < 1024) (on : at < 256) where
     -- it is at most 255 steps off
     pub leaves-fits : price * (span .low - at + (at - span .high)) ≤ 1023 * 255
@@ -65,7 +65,7 @@ small-set bounds at value small room fits k = rw (set-at bounds at k value room)
     by true = fits
     by false = small k
 
-module _ (span : Span) (price first : ℕ) (before : List ℕ) where
+module _ (span : PinSpan) (price first : ℕ) (before : List ℕ) where
   pub axis-size : (n : ℕ) → length (axisFilled span price first n before) ≡ length before
   unfolding axisFilled
   axis-size zero = refl

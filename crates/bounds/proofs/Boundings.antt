@@ -9,7 +9,7 @@ use native.Mathlib.Omega.{arith}
 use lib.ListN.{length, getD}
 use Rattle.job.specs.Grid.{Grid, vertices}
 use Rattle.job.specs.Structs.{gridOf}
-use Rattle.job.specs.declared.groups.Box.{Box}
+use Rattle.bounds.specs.declared.fill.PinBox.{PinBox}
 use Rattle.job.specs.declared.groups.Layer.{Layer as LayerStruct}
 use Rattle.paths.specs.Systems.{to}
 use Rattle.paths.specs.Costs.{Cost, fin, inf, plus}
@@ -72,7 +72,7 @@ module _ {t : TechStruct} (tech : TechFits t) (spots pins : List ℕ) (count : �
   abbrev g : Grid
   g = gridOf (t .grid)
 
-  abbrev box : Box
+  abbrev box : PinBox
   box = unjoinedBox g spots pins count
 
   abbrev wire : ℕ
@@ -174,7 +174,7 @@ module _ {t : TechStruct} (tech : TechFits t) (spots pins : List ℕ) (count : �
           (λ d goes next. omega (arith, via-least tech (good .vertex) into m d goes next, least, led .cost)))
 
   -- what the code leaves, step by step, is that table
-  pub bounds-made : Among g spots pins count → SmallBounds found → {around : Box} {wires vias : ℕ} {first second made : List ℕ}
+  pub bounds-made : Among g spots pins count → SmallBounds found → {around : PinBox} {wires vias : ℕ} {first second made : List ℕ}
       → around ≡ box → wires ≡ wire → vias ≡ via → first ≡ axisFilled (around .rows) wires 1 (t .grid .rows) found
       → second ≡ axisFilled (around .columns) wires 258 (t .grid .columns) first → made ≡ axisFilled (around .layers) vias 516 (t .grid .layers) second
       → Bounding (techBy t) spots made × SmallBounds made × (made ≡ filled t spots pins count found)

@@ -16,8 +16,8 @@ use borrow.Author.Tests.{eq-eqb, ne-eqb, eqb-false}
 use Rattle.job.specs.Grid.{Grid, Vertex, vertices}
 use Rattle.job.specs.Structs.{vertexOf, vertexStruct}
 use Rattle.job.specs.declared.grid.Vertex.{Vertex as VertexStruct}
-use Rattle.job.specs.declared.groups.Span.{Span}
-use Rattle.job.specs.declared.groups.Box.{Box}
+use Rattle.bounds.specs.declared.fill.PinSpan.{PinSpan}
+use Rattle.bounds.specs.declared.fill.PinBox.{PinBox}
 use Rattle.rules.specs.Tracks.{vertexBy}
 use Rattle.rules.specs.Views.{member}
 use Rattle.rules.proofs.Fitting.{one-more}
@@ -35,21 +35,21 @@ pin-on-grid g spots pins {count} {i} among on =
 -- ---- one more vertex
 
 -- on each axis
-pub record InBox (box : Box) (x : Vertex) : Type 0 where
+pub record InBox (box : PinBox) (x : Vertex) : Type 0 where
   pub layer : Within (box .layers) (x .layer)
   pub row : Within (box .rows) (x .row)
   pub column : Within (box .columns) (x .column)
 
 -- a span holds what it held
-still-within : (span : Span) (at : ℕ) {x : ℕ} → Within span x → Within (spanWith span at) x
+still-within : (span : PinSpan) (at : ℕ) {x : ℕ} → Within span x → Within (spanWith span at) x
 still-within span at within = record { low = omega (arith, within .low); high = omega (arith, within .high) }
 
 -- and the new coordinate
-now-within : (span : Span) (at : ℕ) → Within (spanWith span at) at
+now-within : (span : PinSpan) (at : ℕ) → Within (spanWith span at) at
 now-within span at = record { low = omega arith; high = omega arith }
 
 -- a box holds what it held
-still-in : (box : Box) (y : Vertex) {x : Vertex} → InBox box x → InBox (boxWith box y) x
+still-in : (box : PinBox) (y : Vertex) {x : Vertex} → InBox box x → InBox (boxWith box y) x
 still-in box y in-box =
     record {
       layer = still-within _ (y .layer) (in-box .layer);
@@ -58,7 +58,7 @@ still-in box y in-box =
     }
 
 -- and the new vertex
-now-in : (box : Box) (y : Vertex) → InBox (boxWith box y) y
+now-in : (box : PinBox) (y : Vertex) → InBox (boxWith box y) y
 now-in box y =
     record {
       layer = now-within (box .layers) (y .layer);
@@ -67,7 +67,7 @@ now-in box y =
     }
 
 -- no coordinate is more than 255 steps below the box
-pub record Low (box : Box) : Type 0 where
+pub record Low (box : PinBox) : Type 0 where
   pub layers : box .layers .low ≤ 255
   pub rows : box .rows .low ≤ 255
   pub columns : box .columns .low ≤ 255
@@ -75,9 +75,9 @@ pub record Low (box : Box) : Type 0 where
 -- ---- the pins
 
 module _ (g : Grid) (spots pins : List ℕ) where
-  module _ (n : ℕ) {pin : ℕ} {before : Box} (is : pin ≡ getD pins n 0) (so-far : before ≡ unjoinedBox g spots pins n) where
+  module _ (n : ℕ) {pin : ℕ} {before : PinBox} (is : pin ≡ getD pins n 0) (so-far : before ≡ unjoinedBox g spots pins n) where
     -- an unjoined one
-    pub box-turn : {box : Box} {vertex : VertexStruct} → getD spots pin 0 ≡ 2 → vertex ≡ vertexStruct (vertexBy g pin)
+    pub box-turn : {box : PinBox} {vertex : VertexStruct} → getD spots pin 0 ≡ 2 → vertex ≡ vertexStruct (vertexBy g pin)
         → box ≡ boxWith before (vertexOf vertex) → box ≡ unjoinedBox g spots pins (n + 1)
     unfolding unjoinedBox
     box-turn unjoined told wider =

@@ -15,8 +15,8 @@ use lib.Dec.{eqb}
 use Rattle.job.specs.Lists.{All}
 use Rattle.job.specs.Grid.{Grid, Vertex, vertices}
 use Rattle.job.specs.Structs.{gridOf}
-use Rattle.job.specs.declared.groups.Span.{Span}
-use Rattle.job.specs.declared.groups.Box.{Box}
+use Rattle.bounds.specs.declared.fill.PinSpan.{PinSpan}
+use Rattle.bounds.specs.declared.fill.PinBox.{PinBox}
 use Rattle.rules.specs.Tracks.{vertexBy}
 use Rattle.rules.specs.Views.{member}
 use Rattle.rules.specs.declared.price.Tech.{Tech}
@@ -31,20 +31,20 @@ pub record Among (g : Grid) (spots pins : List ℕ) (count : ℕ) : Type 0 where
 -- ---- the box
 
 -- a span that takes in a coordinate too: both ends are inside
-abbrev pub spanWith : Span → (at : ℕ) → Span
+abbrev pub spanWith : PinSpan → (at : ℕ) → PinSpan
 spanWith span at = record { low = min (span .low) at; high = max (span .high) at }
 
 -- the same on each axis
-abbrev pub boxWith : Box → Vertex → Box
+abbrev pub boxWith : PinBox → Vertex → PinBox
 boxWith box x =
     record { layers = spanWith (box .layers) (x .layer); rows = spanWith (box .rows) (x .row); columns = spanWith (box .columns) (x .column) }
 
 -- the span that takes in no coordinate: the first one sets both ends
-abbrev pub nowhere : Span
+abbrev pub nowhere : PinSpan
 nowhere = record { low = 255; high = 0 }
 
 -- the box of the unjoined ones among the first so many pins
-unfoldable pub unjoinedBox : Grid → (spots pins : List ℕ) → (count : ℕ) → Box
+unfoldable pub unjoinedBox : Grid → (spots pins : List ℕ) → (count : ℕ) → PinBox
 unjoinedBox g spots pins zero = record { layers = nowhere; rows = nowhere; columns = nowhere }
 unjoinedBox g spots pins (suc n) =
     let before = unjoinedBox g spots pins n in
@@ -61,11 +61,11 @@ cheapestOf prices (suc n) = min (cheapestOf prices n) (getD prices n 0)
 -- ---- the table
 
 -- 15 times the price of the steps to the span
-unfoldable pub leaves : Span → (price at : ℕ) → ℕ
+unfoldable pub leaves : PinSpan → (price at : ℕ) → ℕ
 leaves span price at = 15 * (price * (span .low - at + (at - span .high)))
 
 -- a table with the entries of the first so many coordinates, from a place on
-unfoldable pub axisFilled : Span → (price first count : ℕ) → (before : List ℕ) → List ℕ
+unfoldable pub axisFilled : PinSpan → (price first count : ℕ) → (before : List ℕ) → List ℕ
 axisFilled span price first zero before = before
 axisFilled span price first (suc n) before = set (axisFilled span price first n before) (first + n) (leaves span price n)
 

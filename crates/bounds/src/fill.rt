@@ -8,11 +8,21 @@ ghost use Rattle.bounds.specs.Bounds.{SmallBounds, Bounding};
 ghost use Rattle.bounds.specs.Fills.{Among, spanWith, boxWith, unjoinedBox, cheapestOf, leaves, axisFilled, filled};
 use job::grid::Grid;
 use job::grid::Vertex;
-use job::groups::Box;
-use job::groups::Span;
 use rules::price::Tech;
 use rules::track::vertex_by;
 use tree::UNJOINED;
+
+// How far the unjoined pins reach along an axis: both ends are inside.
+pub struct PinSpan {
+    pub low: usize,
+    pub high: usize,
+}
+
+pub struct PinBox {
+    pub layers: PinSpan,
+    pub rows: PinSpan,
+    pub columns: PinSpan,
+}
 
 // The dearest that a layer line can name.
 const MOST: usize = 1023;
@@ -37,22 +47,22 @@ fn above(a: usize, b: usize) -> usize
 }
 
 // A span that reaches as far as a coordinate too.
-fn widened(span: Span, at: usize) -> Span
+fn widened(span: PinSpan, at: usize) -> PinSpan
     ensures { λ r. ⌜ r ≡ spanWith span at ⌝ }
 {
-    Span {
+    PinSpan {
         low: lesser(span.low, at),
         high: greater(span.high, at),
     }
 }
 
-fn widened_box(around: Box, vertex: Vertex) -> Box
+fn widened_box(around: PinBox, vertex: Vertex) -> PinBox
     ensures { λ r. ⌜ r ≡ boxWith around (vertexOf vertex) ⌝ }
 {
     let layers = widened(around.layers, vertex.layer);
     let rows = widened(around.rows, vertex.row);
     let columns = widened(around.columns, vertex.column);
-    Box {
+    PinBox {
         layers,
         rows,
         columns,
@@ -60,12 +70,12 @@ fn widened_box(around: Box, vertex: Vertex) -> Box
 }
 
 // The box of the unjoined pins; its spans have no inside where there are none.
-fn unjoined_box(grid: Grid, spots: &[u8; 16384], pins: &[usize; 16], count: usize) -> Box
+fn unjoined_box(grid: Grid, spots: &[u8; 16384], pins: &[usize; 16], count: usize) -> PinBox
     requires { ⌜ (Small grid) × (Among (gridOf grid) (now spots) (now pins) count) ⌝ }
     ensures { λ r. ⌜ r ≡ unjoinedBox (gridOf grid) (now (spots .entry)) (now (pins .entry)) count ⌝ }
 {
-    let none = Span { low: 255, high: 0 };
-    let mut around = Box {
+    let none = PinSpan { low: 255, high: 0 };
+    let mut around = PinBox {
         layers: none,
         rows: none,
         columns: none,
@@ -93,7 +103,7 @@ fn cheapest(prices: [usize; 8], count: usize) -> usize
 
 // What a coordinate leaves: the steps to the span at a price, times 15, so that a search that counts each
 // cost 16 times still pays 1 for each move.
-fn left_at(span: Span, price: usize, at: usize) -> u64
+fn left_at(span: PinSpan, price: usize, at: usize) -> u64
     requires { ⌜ (span .low ≤ 255) × (price < 1024) × (at < 256) ⌝ }
     ensures { λ r. ⌜ r ≡ leaves span price at ⌝ }
 {
@@ -101,7 +111,7 @@ fn left_at(span: Span, price: usize, at: usize) -> u64
 }
 
 // The entries of all rows, columns or layers.
-fn fill_axis(bounds: &mut [u64], first: usize, count: usize, span: Span, price: usize)
+fn fill_axis(bounds: &mut [u64], first: usize, count: usize, span: PinSpan, price: usize)
     requires { ⌜ (first + count ≤ length (now bounds)) × (count ≤ 256) × (span .low ≤ 255) × (price < 1024) ⌝ }
     ensures { λ _. ⌜ now (bounds .exit) ≡ axisFilled span price first count (now (bounds .entry)) ⌝ }
 {

@@ -31,10 +31,11 @@ pub struct NetHead {
     pub boxes: usize,
 }
 
-// Both ends are inside.
+// Both ends are inside. They are bytes, as wide as a job writes them, so that a row's columns can be held
+// against them many at a time.
 pub struct Span {
-    pub low: usize,
-    pub high: usize,
+    pub low: u8,
+    pub high: u8,
 }
 
 pub struct Box {
@@ -200,16 +201,16 @@ pub fn box_group(s: &[u8], at: usize) -> BoxGroup
     let column_low = row_high.next.field(s, 8);
     let column_high = column_low.next.field(s, 8);
     let layers = Span {
-        low: layer_low.value,
-        high: layer_high.value,
+        low: layer_low.value as u8,
+        high: layer_high.value as u8,
     };
     let rows = Span {
-        low: row_low.value,
-        high: row_high.value,
+        low: row_low.value as u8,
+        high: row_high.value as u8,
     };
     let columns = Span {
-        low: column_low.value,
-        high: column_high.value,
+        low: column_low.value as u8,
+        high: column_high.value as u8,
     };
     BoxGroup::Whole(Box {
         layers,

@@ -15,7 +15,7 @@ use Rattle.job.specs.Heads.{readBits}
 use Rattle.paths.specs.Distances.{isCost, onward, keeps, lowestFrom, lowestKeeping, moveOn, follow}
 use Rattle.paths.specs.Starts.{orNext, best, startCost}
 use Rattle.rules.specs.Tracks.{layerOf, rowOf, columnOf, trackIndex, trackLength, ifThere, entered}
-use Rattle.rules.specs.Views.{member, othersHold, between, inBox, inGuide, pinsOf, boxesOf, viewOf}
+use Rattle.rules.specs.Views.{member, othersHold, inBox, inGuide, pinsOf, boxesOf, viewOf}
 use Rattle.rules.specs.Segments.{opposite, kindOf, against, ofLength, notAgainst, grow}
 use Rattle.rules.specs.Prices.{techOf, lineOf, charge, penalty, base, guideAt, shortAt, sumCost, entering}
 use Rattle.rules.specs.Overheads.{clear, toward, onFrom, clearRun, backFrom, firstOf, bothEnds, otherwise, lengthenedBy, tooShort, overheadOf}
@@ -59,7 +59,7 @@ unfolding All rows rowA rowB rowC rowD rowE rowF rowG rowH rowI rowJ rowK rowL
     viaBelow plainLines plainJob pin
     any all vertices vertexNumber same stepsColumn covered onObstacle largestMinLength strideOf
     isCost onward keeps lowestFrom lowestKeeping moveOn follow orNext best startCost
-    layerOf rowOf columnOf trackIndex trackLength ifThere entered member othersHold between inBox inGuide pinsOf boxesOf viewOf
+    layerOf rowOf columnOf trackIndex trackLength ifThere entered member othersHold inBox inGuide pinsOf boxesOf viewOf
     opposite kindOf against ofLength notAgainst grow techOf lineOf charge penalty base guideAt shortAt sumCost entering
     clear toward onFrom clearRun backFrom firstOf bothEnds otherwise lengthenedBy tooShort overheadOf leaving stepping bySegment ifPriced into step priced
     startAt after goOn walk flatMap metalAtFirst begun without more joinedBy places joinFrom joinBy segmentCode

@@ -32,7 +32,7 @@ pub fn lay_all_pins(s: &[u8], grid: Grid, nets: usize, from: usize, map: &mut [u
         → Codes (gridOf grid) (metalAtFirst j) (now (map .exit))) ⌝ }
 {
     let mut pins: [usize; 16] = [0; 16];
-    let mut boxes: [usize; 90] = [0; 90];
+    let mut boxes: [u8; 90] = [0; 90];
     let mut at = from;
     let mut net: u16 = 0;
     let mut left = nets;

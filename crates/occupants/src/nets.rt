@@ -76,7 +76,7 @@ pub fn good_span(span: Span, size: usize) -> bool
     if span.high < span.low {
         return false;
     }
-    span.high < size
+    (span.high as usize) < size
 }
 
 pub fn good_box(grid: Grid, b: Box) -> bool

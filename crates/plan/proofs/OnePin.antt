@@ -1,7 +1,7 @@
 -- A net of one pin "writes no record, counts as fully joined and puts its pin on the map".
 --     OnePin                          of a net
 --     one-pin-joined                  it begins with no pin unjoined
---     one-pin-routed, one-pin-read    so routing writes no record, reading a plan takes none, and both count it
+--     one-pin-routed, one-pin-read    so routing writes no record, reading takes none, and both count it
 --     one-pins-routed                 such nets alone: no record, the pins as metal, every net joined
 --     one-pins-plan                   their plan has no bytes
 use Prim.Native.Nat.{ℕ, suc, _+_}

@@ -41,7 +41,7 @@ pub fn load_pins(s: &[u8], grid: Grid, count: usize, from: usize, pins: &mut [us
 }
 
 // Six numbers for a box: low and high of its layers, its rows and its columns.
-pub fn store_box(boxes: &mut [usize; 90], first: usize, b: Box)
+pub fn store_box(boxes: &mut [u8; 90], first: usize, b: Box)
     requires { ⌜ first + 6 ≤ 90 ⌝ }
     ensures { λ _. ⌜ now (boxes .exit) ≡ sets (now (boxes .entry)) first (boxNumbers (boxOf b)) ⌝ }
 {
@@ -53,7 +53,7 @@ pub fn store_box(boxes: &mut [usize; 90], first: usize, b: Box)
     boxes[first + 5] = b.columns.high;
 }
 
-pub fn load_boxes(s: &[u8], count: usize, from: usize, boxes: &mut [usize; 90])
+pub fn load_boxes(s: &[u8], count: usize, from: usize, boxes: &mut [u8; 90])
     requires { ⌜ (count < 16) × (length (now s) ≤ 262144) × (from + 38 * count ≤ 8 * length (now s)) ⌝ }
     ensures { λ _. ⌜ now (boxes .exit) ≡ sets (now (boxes .entry)) 0 (boxesNumbers (bitsOf (now (s .entry))) count from) ⌝ }
 {
@@ -76,7 +76,7 @@ pub fn load_net(
     grid: Grid,
     at: usize,
     pins: &mut [usize; 16],
-    boxes: &mut [usize; 90],
+    boxes: &mut [u8; 90],
 ) -> NetLoaded
     requires { ⌜ (Small grid) × (length (now s) ≤ 262144) × (NetRoom (bitsOf (now s)) at) ⌝ }
     ensures counts { λ r. ⌜ r ≡ netLoaded (bitsOf (now (s .entry))) at ⌝ }

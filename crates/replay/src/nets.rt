@@ -84,7 +84,7 @@ pub fn read_nets(
 {
     let mut seen = [0u8; 16384];
     let mut pins: [usize; 16] = [0; 16];
-    let mut boxes: [usize; 90] = [0; 90];
+    let mut boxes: [u8; 90] = [0; 90];
     let mut position = from;
     let mut at: usize = 0;
     let mut totals = no_totals();

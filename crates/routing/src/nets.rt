@@ -35,7 +35,7 @@ pub fn route_nets(
 {
     let mut seen = [0u8; 16384];
     let mut pins: [usize; 16] = [0; 16];
-    let mut boxes: [usize; 90] = [0; 90];
+    let mut boxes: [u8; 90] = [0; 90];
     let mut position = from;
     let mut routed = Routed {
         totals: no_totals(),

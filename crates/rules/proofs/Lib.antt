@@ -7,6 +7,7 @@
 --     Prices         the price of entering
 --     Moves          a legal move taken apart; what it keeps and costs
 --     Lawful         places and moves satisfy what the laws of cheapest walks ask
+--     Boxes          the box test, axis by axis
 --     Own            a net does not see its own metal
 --     Laid           what a move lays: clear vertices of the grid
 --     Walks          what a route does when its moves are walked
@@ -36,6 +37,7 @@ pub mod Segments
 pub mod Prices
 pub mod Moves
 pub mod Lawful
+pub mod Boxes
 pub mod Own
 pub mod Laid
 pub mod Walks

@@ -1,7 +1,8 @@
 -- What one net sees at a vertex.
 -- Specification: section 2.2.
 --     View                       blocked, taken, inside the guide
---     inBox, inGuide             the one box test, and the guide of a net
+--     onLayers, onRows, onColumns, inBox, inGuide
+--                                the box test, axis by axis, and the guide of a net
 --     member, othersHold         whether a vertex is among a net's, or among another net's
 --     viewOf                     what net k sees where each net has its metal
 use Prim.Native.Nat.{ℕ, zero, suc}
@@ -29,14 +30,22 @@ othersHold k [] v = false
 othersHold zero (own ∷ others) v = any (member v) others
 othersHold (suc k) (other ∷ rest) v = member v other || othersHold k rest v
 
-unfoldable pub between : (low x high : ℕ) → Bool
+abbrev pub between : (low x high : ℕ) → Bool
 between low x high = leb low x && leb x high
 
 -- "boxes of 38 bits (layer low, high, row low, high, column low, high; both ends inside)"
+abbrev pub onLayers : (layer : ℕ) → Box → Bool
+onLayers layer b = between (b .layerLow) layer (b .layerHigh)
+
+abbrev pub onRows : (row : ℕ) → Box → Bool
+onRows row b = between (b .rowLow) row (b .rowHigh)
+
+abbrev pub onColumns : (column : ℕ) → Box → Bool
+onColumns column b = between (b .columnLow) column (b .columnHigh)
+
+-- "by layer, then row, then column", "left at the first that says no"
 unfoldable pub inBox : Vertex → Box → Bool
-inBox v b =
-    between (b .layerLow) (v .layer) (b .layerHigh)
-    && (between (b .rowLow) (v .row) (b .rowHigh) && between (b .columnLow) (v .column) (b .columnHigh))
+inBox v b = onLayers (v .layer) b && (onRows (v .row) b && onColumns (v .column) b)
 
 -- "No boxes: the whole grid is inside the guide."
 unfoldable pub inGuide : List Box → Vertex → Bool

@@ -18,7 +18,7 @@ use Rattle.job.specs.declared.groups.Box.{Box as BoxStruct}
 use Rattle.rules.specs.Tracks.{vertexBy}
 use Rattle.rules.specs.Views.{inBox, inGuide}
 use Rattle.views.specs.Sight.{boxIn, boxesIn, seenByte, guidedByte, GuidedWhere, sightOf}
-use Rattle.views.proofs.Spans.{guided-twice}
+use Rattle.views.proofs.Axes.{guided-twice}
 
 -- the flag of the outside, taken off where it stands
 guided-flag : (b t : Bool) (found : Bool) → guidedByte found (seenByte b t true) ≡ seenByte b t (not found)

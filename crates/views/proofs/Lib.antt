@@ -1,7 +1,7 @@
 -- The laws behind the proofs of what a net sees.
 --     Guides      the guide, box by box
---     Spans       vertices found inside the guide, span by span
---     Rows        the columns of one row that are found inside the guide
+--     Axes        vertices found inside the guide along an axis
+--     Rows        the vertices of one row that are found inside the guide
 --     Flags       the flags of a byte
 --     Sights      bytes made in order of the vertices' numbers
 --     Opening     the blocked flag taken off the net's own pins
@@ -10,7 +10,7 @@
 --     Seen        the bytes make the view of the net at hand
 --     Arrays      a net's boxes and pins, read back from the arrays that they are stored in
 mod Guides
-mod Spans
+mod Axes
 mod Rows
 mod Flags
 mod Sights

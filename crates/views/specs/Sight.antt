@@ -21,7 +21,7 @@ use Rattle.job.specs.Job.{Box, Net, Job}
 use Rattle.job.specs.Good.{allPins, GoodJob}
 use Rattle.occupants.specs.Occupants.{Occupants}
 use Rattle.rules.specs.Tracks.{vertexBy}
-use Rattle.rules.specs.Views.{between, member, inGuide, pinsOf}
+use Rattle.rules.specs.Views.{member, inBox, inGuide, pinsOf}
 use Rattle.rules.specs.Maps.{netCode}
 
 -- the box whose six numbers stand from a position on
@@ -51,10 +51,10 @@ seenByte blocked taken outside = cond blocked 1 0 + cond taken 2 0 + cond outsid
 
 -- a box's vertices on one layer, and on one row of it
 unfoldable pub inLayer : (layer : ℕ) → Box → Vertex → Bool
-inLayer layer b w = eqb (w .layer) layer && (between (b .rowLow) (w .row) (b .rowHigh) && between (b .columnLow) (w .column) (b .columnHigh))
+inLayer layer b w = eqb (w .layer) layer && inBox w b
 
-unfoldable pub inRow : (layer row low high : ℕ) → Vertex → Bool
-inRow layer row low high w = eqb (w .layer) layer && (eqb (w .row) row && between low (w .column) high)
+unfoldable pub inRow : (layer row : ℕ) → Box → Vertex → Bool
+inRow layer row b w = eqb (w .row) row && inLayer layer b w
 
 -- the byte of a vertex, without the flag 4 where the vertex is found inside the guide
 unfoldable pub guidedByte : (found : Bool) → (byte : ℕ) → ℕ

@@ -8,15 +8,13 @@ ghost use lib.Dec.{eqb};
 ghost use Rattle.job.specs.Lists.{All};
 ghost use Rattle.job.specs.Grid.{vertices};
 ghost use Rattle.job.specs.Job.{Job};
-ghost use Rattle.job.specs.Structs.{Sized, gridOf, boxOf};
-ghost use Rattle.rules.specs.Views.{inBox, viewOf};
+ghost use Rattle.job.specs.Structs.{Sized, gridOf};
+ghost use Rattle.rules.specs.Views.{viewOf};
 ghost use Rattle.rules.specs.Seen.{viewBy};
-ghost use Rattle.views.specs.Sight.{boxesIn, takenCode, seenByte, inRow, inLayer, GuidedWhere, NetAtHand, sightOf, ownByte, opened};
+ghost use Rattle.views.specs.Sight.{boxesIn, takenCode, seenByte, NetAtHand, sightOf, ownByte, opened};
 use crate::guide::box_in;
+use crate::guide::guide_box;
 use job::grid::Grid;
-use job::grid::Vertex;
-use job::groups::Box;
-use job::groups::Span;
 use rules::seen::BLOCKED;
 use rules::seen::OUTSIDE;
 use rules::seen::TAKEN;
@@ -63,63 +61,13 @@ fn see_occupants(seen: &mut [u8], occupants: &[u8; 16384], map: &[u16], count: u
     }
 }
 
-// The end of a span's numbers that are below a size: a box may reach past the grid.
-fn end_below(span: Span, size: usize) -> usize
-    ensures { λ r. ⌜ (r ≤ size) × ((x : ℕ) → x < r → x ≤ span .high) × ((x : ℕ) → x < size → x ≤ span .high → x < r) ⌝ }
-{
-    if span.high < size {
-        span.high + 1
-    } else {
-        size
-    }
-}
-
-// A box's vertices on one row are inside the guide. OUTSIDE is the highest flag: the remainder keeps the
-// others.
-fn guide_row(seen: &mut [u8], grid: Grid, layer: usize, row: usize, columns: Span)
-    requires { ⌜ (Sized grid) × (vertices (gridOf grid) ≤ length (now seen)) × (layer < grid .layers) × (row < grid .rows) ⌝ }
-    ensures { λ _. ⌜ GuidedWhere (gridOf grid) (inRow layer row (columns .low) (columns .high)) (now (seen .entry)) (now (seen .exit)) ⌝ }
-{
-    let first = grid.number(Vertex {
-        layer,
-        row,
-        column: 0,
-    });
-    let end = end_below(columns, grid.columns);
-    for column in columns.low..end {
-        seen[first + column] = seen[first + column] % OUTSIDE;
-    }
-}
-
-// A box's vertices on one layer are inside the guide.
-fn guide_layer(seen: &mut [u8], grid: Grid, layer: usize, guide: Box)
-    requires { ⌜ (Sized grid) × (vertices (gridOf grid) ≤ length (now seen)) × (layer < grid .layers) ⌝ }
-    ensures { λ _. ⌜ GuidedWhere (gridOf grid) (inLayer layer (boxOf guide)) (now (seen .entry)) (now (seen .exit)) ⌝ }
-{
-    let end = end_below(guide.rows, grid.rows);
-    for row in guide.rows.low..end {
-        guide_row(seen, grid, layer, row, guide.columns);
-    }
-}
-
-// A box's vertices are inside the guide.
-fn guide_box(seen: &mut [u8], grid: Grid, guide: Box)
-    requires { ⌜ (Sized grid) × (vertices (gridOf grid) ≤ length (now seen)) ⌝ }
-    ensures { λ _. ⌜ GuidedWhere (gridOf grid) (λ w. inBox w (boxOf guide)) (now (seen .entry)) (now (seen .exit)) ⌝ }
-{
-    let end = end_below(guide.layers, grid.layers);
-    for layer in guide.layers.low..end {
-        guide_layer(seen, grid, layer, guide);
-    }
-}
-
 // No boxes: the whole grid is inside the guide.
 fn see_grid(
     seen: &mut [u8],
     occupants: &[u8; 16384],
     map: &[u16],
     grid: Grid,
-    boxes: &[usize; 90],
+    boxes: &[u8; 90],
     count: usize,
 )
     requires { ⌜ (Sized grid) × (vertices (gridOf grid) ≤ length (now seen)) × (vertices (gridOf grid) ≤ length (now map)) × (count ≤ 15) ⌝ }
@@ -151,7 +99,7 @@ pub fn see_net(
     grid: Grid,
     pins: &[usize; 16],
     pincount: usize,
-    boxes: &[usize; 90],
+    boxes: &[u8; 90],
     boxcount: usize,
     net: u16,
 )

@@ -100,11 +100,7 @@ impl Brute<'_> {
             self.job.layers[from.layer.min(to.layer) as usize].via_price
         };
         let boxes = &self.job.nets[self.net].boxes;
-        let inside = boxes.iter().any(|guide| {
-            (guide.low.layer <= to.layer && to.layer <= guide.high.layer)
-                && (guide.low.row <= to.row && to.row <= guide.high.row)
-                && (guide.low.column <= to.column && to.column <= guide.high.column)
-        });
+        let inside = boxes.iter().any(|guide| guide.outside_by(to).is_none());
         if !boxes.is_empty() && !inside {
             price += Some(self.job.guide_penalty).filter(|price| *price != CLOSED)?;
         }

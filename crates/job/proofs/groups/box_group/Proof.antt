@@ -4,7 +4,7 @@ use native.Mathlib.Nat.{add-assoc}
 use native.Mathlib.Omega.{arith}
 use Rattle.job.specs.Reading.{boxAt}
 use Rattle.job.specs.Structs.{boxGroup}
-use Rattle.job.proofs.Fields.{is-whole, is-cut, Left, all-left, past, room}
+use Rattle.job.proofs.Fields.{is-whole, is-cut, Left, all-left, past, room, value-below}
 use Rattle.job.proofs.groups.box_group.Statement.{statement}
 use Rattle.job.proofs.groups.box_group.Tie as tie
 
@@ -45,21 +45,42 @@ field-requires-5 c κs = room tt (past-rows c)
 field-requires-6 : tie.Need-field-requires-6
 field-requires-6 c κs = room tt (past 8 tt (c .field5 .ensures) (past-rows (c .before)))
 
+-- each end fits a byte
+cast-t15 : tie.Need-cast-t15
+cast-t15 c = omega (arith, value-below _ _ 3 (c .before .before .before .before .before .before .field .ensures))
+
+cast-t16 : tie.Need-cast-t16
+cast-t16 c = omega (arith, value-below _ _ 3 (c .before .before .before .before .before .before .field2 .ensures))
+
+cast-t15-2 : tie.Need-cast-t15-2
+cast-t15-2 c = omega (arith, value-below _ _ 8 (c .before .before .before .before .before .before .field3 .ensures))
+
+cast-t16-2 : tie.Need-cast-t16-2
+cast-t16-2 c = omega (arith, value-below _ _ 8 (c .before .before .before .before .before .before .field4 .ensures))
+
+cast-t15-3 : tie.Need-cast-t15-3
+cast-t15-3 c = omega (arith, value-below _ _ 8 (c .before .before .before .before .before .before .field5 .ensures))
+
+cast-t16-3 : tie.Need-cast-t16-3
+cast-t16-3 c = omega (arith, value-below _ _ 8 (c .before .before .before .before .before .before .field6 .ensures))
+
 returns-2 : tie.Need-returns-2
 unfolding boxGroup boxAt
 returns-2 c =
+    let read = c .before .before .before .before .before .before in
     rw (
-      is-whole 38 _ _ (c .before .before .before .before .before .before .before .whole .ensures) (c .before .before .before .before .before .before .if1 .left),
-      c .field6 .ensures,
-      c .before .field5 .ensures,
-      c .before .before .field4 .ensures,
-      c .before .before .before .field3 .ensures,
-      c .before .before .before .before .field2 .ensures,
-      c .before .before .before .before .before .field .ensures,
+      is-whole 38 _ _ (read .before .before .before .before .before .before .before .whole .ensures) (read .before .before .before .before .before .before .if1 .left),
+      read .field6 .ensures,
+      read .before .field5 .ensures,
+      read .before .before .field4 .ensures,
+      read .before .before .before .field3 .ensures,
+      read .before .before .before .before .field2 .ensures,
+      read .before .before .before .before .before .field .ensures,
     )
     (simp add-assoc)
 
 pub box-group-spec : {M : Type 1} → statement M
 box-group-spec =
     tie.close
-    (tie.spec whole-requires returns field-requires field-requires-2 field-requires-3 field-requires-4 field-requires-5 field-requires-6 returns-2)
+    (tie.spec whole-requires returns field-requires field-requires-2 field-requires-3 field-requires-4 field-requires-5 field-requires-6 cast-t15
+    cast-t16 cast-t15-2 cast-t16-2 cast-t15-3 cast-t16-3 returns-2)

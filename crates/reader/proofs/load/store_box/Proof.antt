@@ -8,17 +8,11 @@ use Rattle.reader.specs.Loading.{boxNumbers}
 use Rattle.reader.proofs.load.store_box.Statement.{statement}
 use Rattle.reader.proofs.load.store_box.Tie as tie
 
-mul-boxes : tie.Need-mul-boxes
-mul-boxes c = search needs
-
 element-write-boxes : tie.Need-element-write-boxes
 element-write-boxes c = search needs
 
 add-boxes : tie.Need-add-boxes
 add-boxes c = search needs
-
-mul-boxes-2 : tie.Need-mul-boxes-2
-mul-boxes-2 c = search needs
 
 element-write-boxes-2 : tie.Need-element-write-boxes-2
 element-write-boxes-2 c = search needs
@@ -26,17 +20,11 @@ element-write-boxes-2 c = search needs
 add-boxes-2 : tie.Need-add-boxes-2
 add-boxes-2 c = search needs
 
-mul-boxes-3 : tie.Need-mul-boxes-3
-mul-boxes-3 c = search needs
-
 element-write-boxes-3 : tie.Need-element-write-boxes-3
 element-write-boxes-3 c = search needs
 
 add-boxes-3 : tie.Need-add-boxes-3
 add-boxes-3 c = search needs
-
-mul-boxes-4 : tie.Need-mul-boxes-4
-mul-boxes-4 c = search needs
 
 element-write-boxes-4 : tie.Need-element-write-boxes-4
 element-write-boxes-4 c = search needs
@@ -44,17 +32,11 @@ element-write-boxes-4 c = search needs
 add-boxes-4 : tie.Need-add-boxes-4
 add-boxes-4 c = search needs
 
-mul-boxes-5 : tie.Need-mul-boxes-5
-mul-boxes-5 c = search needs
-
 element-write-boxes-5 : tie.Need-element-write-boxes-5
 element-write-boxes-5 c = search needs
 
 add-boxes-5 : tie.Need-add-boxes-5
 add-boxes-5 c = search needs
-
-mul-boxes-6 : tie.Need-mul-boxes-6
-mul-boxes-6 c = search needs
 
 element-write-boxes-6 : tie.Need-element-write-boxes-6
 element-write-boxes-6 c = search needs
@@ -73,21 +55,15 @@ pub store-box-spec : {M : Type 1} → statement M
 store-box-spec =
     tie.close
     (tie.spec
-    mul-boxes
     element-write-boxes
     add-boxes
-    mul-boxes-2
     element-write-boxes-2
     add-boxes-2
-    mul-boxes-3
     element-write-boxes-3
     add-boxes-3
-    mul-boxes-4
     element-write-boxes-4
     add-boxes-4
-    mul-boxes-5
     element-write-boxes-5
     add-boxes-5
-    mul-boxes-6
     element-write-boxes-6
     returns)
