@@ -11,7 +11,7 @@ pub enum Axis {
 }
 
 impl GuideBox {
-    /// "By layer, then row, then column. Three tests one after the other, left at the
+    /// "By layer, then row, then column", "three tests one after the other, left at the
     /// first that says no": the axis that says no, or none where the box holds the
     /// vertex. "Both ends inside."
     pub fn outside_by(&self, v: Vertex) -> Option<Axis> {

@@ -1,8 +1,9 @@
 //! Checks the library's calls against a second implementation, written from the
 //! specification alone.
 //!
-//! - Jobs are data (`job`, with the box test in `guide`), made by hand (`marked`, `largest`) or at random
-//!   (`generate`), and plans are too (`plan`, `wander`); `damage` makes both bad.
+//! - Jobs are data (`job`, with the box test in `guide`), made by hand (`marked`,
+//!   `largest`) or at random (`generate`), and plans are too (`plan`, `wander`);
+//!   `damage` makes both bad.
 //! - The second implementation reads jobs (`reader`, `sizing`), has the rules of
 //!   moves (`rules`) and nets (`joining`), searches joins (`router`) and has the calls
 //!   (`routing`, `replay`), the program (`program`) and the host (`host`). It is itself

@@ -9,7 +9,7 @@ use maizespell_tests::grid::{vertex, Grid, Vertex};
 use maizespell_tests::job::{GuideBox, Job, CLOSED};
 use maizespell_tests::library;
 use maizespell_tests::marked::{plain, plain_layers};
-use maizespell_tests::plan::{pack, Join, Record};
+use maizespell_tests::plan::{pack, Record};
 use maizespell_tests::routing::routed_by;
 use maizespell_tests::rules::board::Board;
 
@@ -37,34 +37,21 @@ fn boxes(grid: &Grid) -> Vec<GuideBox> {
     boxes
 }
 
-/// "Both ends inside."
-fn holds(guide: &GuideBox, v: Vertex) -> bool {
-    let GuideBox { low, high } = guide;
-    (low.layer..=high.layer).contains(&v.layer)
-        && (low.row..=high.row).contains(&v.row)
-        && (low.column..=high.column).contains(&v.column)
+/// Each vertex of the grid, after a neighbour on its track.
+fn steps(grid: &Grid) -> Vec<[Vertex; 2]> {
+    let mut steps = Vec::new();
+    for track in grid.tracks() {
+        for place in 0..track.length {
+            let beside = if place == 0 { 1 } else { place - 1 };
+            let at = |place| grid.numbered(track.vertex(place) as u32);
+            steps.push([at(beside), at(place)]);
+        }
+    }
+    steps
 }
 
-/// A job of one net, from a neighbour on the vertex's track to the vertex.
-fn step_into(grid: &Grid, to: Vertex, boxes: &[GuideBox]) -> Job {
-    let next = grid.along(to, 1);
-    let from = match (grid.holds(next), grid.step_changes_column(to.layer)) {
-        (true, _) => next,
-        (false, true) => vertex(to.layer, to.row, to.column - 1),
-        (false, false) => vertex(to.layer, to.row - 1, to.column),
-    };
-    let mut job = Job {
-        rows: grid.rows,
-        columns: grid.columns,
-        layers: plain_layers(grid.layers as usize),
-        ..plain(&[&[from, to]])
-    };
-    job.nets[0].boxes = boxes.to_vec();
-    job
-}
-
-/// The join that routing finds; replay takes it, and at one more turns it back.
-fn joined(job: &Job) -> Option<Join> {
+/// The cost of the join that routing finds; replay takes it, and at one more turns it back.
+fn cost(job: &Job) -> Option<u64> {
     let board = Board::new(job);
     let routed = routed_by(library::ROUTING, job);
     let replayed = |records: &[Record]| {
@@ -76,23 +63,24 @@ fn joined(job: &Job) -> Option<Join> {
     let join = routed.records[0].join()?;
     let dearer = Record::of(join.start, &join.moves, join.cost + 1);
     assert_eq!(replayed(&[dearer]), OTHER_COST);
-    Some(join.clone())
+    Some(join.cost)
 }
 
-/// The guide's verdict on a vertex is that some box holds it.
-fn check(grid: &Grid, to: Vertex, boxes: &[GuideBox]) -> bool {
-    let inside = boxes.iter().any(|guide| holds(guide, to));
-    let mut job = step_into(grid, to, boxes);
-    let cost = |job: &Job| joined(job).map(|join| join.cost);
+/// The guide's verdict on the vertex of a step is that some box holds it.
+fn check(grid: &Grid, step: &[Vertex; 2], boxes: &[GuideBox]) -> bool {
+    let outside = |guide: &GuideBox| guide.outside_by(step[1]).is_some();
+    let inside = !boxes.iter().all(outside);
+    let mut job = Job {
+        rows: grid.rows,
+        columns: grid.columns,
+        layers: plain_layers(grid.layers as usize),
+        ..plain(&[step])
+    };
+    job.nets[0].boxes = boxes.to_vec();
     assert_eq!(cost(&job), Some(if inside { 1 } else { 11 }), "{job:?}");
     job.guide_penalty = CLOSED;
     assert_eq!(cost(&job), inside.then_some(1), "{job:?}");
     inside
-}
-
-fn vertices(grid: &Grid) -> Vec<Vertex> {
-    let numbers = 0..grid.vertices();
-    numbers.map(|number| grid.numbered(number)).collect()
 }
 
 #[test]
@@ -105,8 +93,8 @@ fn every_box_and_every_vertex() {
     };
     let mut verdicts = [0, 0];
     for guide in boxes(&grid) {
-        for to in vertices(&grid) {
-            verdicts[usize::from(check(&grid, to, &[guide]))] += 1;
+        for step in steps(&grid) {
+            verdicts[usize::from(check(&grid, &step, &[guide]))] += 1;
         }
     }
     println!("outside and inside: {verdicts:?}");
@@ -125,8 +113,8 @@ fn every_two_boxes() {
     };
     for first in boxes(&grid) {
         for second in boxes(&grid) {
-            for to in vertices(&grid) {
-                check(&grid, to, &[first, second]);
+            for step in steps(&grid) {
+                check(&grid, &step, &[first, second]);
             }
         }
     }

@@ -3,11 +3,11 @@
 --     box-layer, box-row, box-column     no where the layer or the row is none of the box's; else what the
 --                                        column says
 use mathlib.Core.Path.{_≡_, refl}
-use mathlib.Core.Bool.{Bool, true, false, _&&_, and-false}
+use mathlib.Core.Bool.{true, false, _&&_, and-false}
 use lib.Dec.{leb}
 use Rattle.job.specs.Grid.{Vertex}
 use Rattle.job.specs.Job.{Box}
-use Rattle.rules.specs.Views.{between, onLayers, onRows, onColumns, inBox}
+use Rattle.rules.specs.Views.{onLayers, onRows, onColumns, inBox}
 
 module _ (v : Vertex) (b : Box) where
   -- the two ends of each axis, both inside
