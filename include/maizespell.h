@@ -1,18 +1,19 @@
 /* Maizespell, a detailed router over priced metal layers. For C99 and C++17, on x86-64 Linux.
  *
- * Sizing says what slices a job needs, routing makes its plan, replay reads a plan again. Each may be called
- * with any bytes and slices of any length: it returns a result or a numbered refusal.
+ * There are four calls: sizing says what slices a job needs, routing makes its plan, replay reads a plan
+ * again, and report replays a plan and adds what it is made of to the wire report of many plans. Each may be
+ * called with any bytes and slices of any length: it returns a result or a numbered refusal.
  *
  * Slices are lent as a pointer and a length.
  * - The length counts numbers of the pointer's type, and so many must be there. No call touches what lies
  *   outside its slices, or writes through a pointer to const.
  * - A slice of length 0 may have any pointer, null included: nothing is read or written through it.
- * - The pointer is aligned as its type asks: map to 2 bytes, work to 8.
+ * - The pointer is aligned as its type asks: map to 2 bytes, work and report to 8.
  * - The slices of a call do not overlap, and nobody else writes them, or reads those that the call may write,
  *   before it returns.
  * - The caller owns them. No pointer is kept after a call returns, nothing is allocated, and there is no
- *   state from call to call: calls may run at once in several threads, with map, work and routing's plan of
- *   their own.
+ *   state from call to call: calls may run at once in several threads, with map, work, report and routing's
+ *   plan of their own.
  *
  * A call takes its working memory from the caller's stack: see the constants below. */
 #ifndef MAIZESPELL_H
@@ -23,17 +24,17 @@
 
 /* The version, which the package and the tool have from here. */
 #define MAIZESPELL_VERSION_MAJOR 0
-#define MAIZESPELL_VERSION_MINOR 4
+#define MAIZESPELL_VERSION_MINOR 5
 #define MAIZESPELL_VERSION_PATCH 0
-#define MAIZESPELL_VERSION "0.4.0"
+#define MAIZESPELL_VERSION "0.5.0"
 
 #ifdef __cplusplus
 extern "C" {
 #endif
 
 /* The numbers of refusals. The first broken rule in reading order is returned, with its place: 12 to 14 give
- * the need, all others a bit position, counted from the most significant bit of the first byte, 15 to 18 in
- * the plan. 7 is retired: no call returns it. */
+ * the need, 19 a layer, all others a bit position, counted from the most significant bit of the first byte,
+ * 15 to 18 in the plan. 7 is retired: no call returns it. */
 enum maizespell_refusal {
     MAIZESPELL_NOT_REFUSED = 0,
     MAIZESPELL_JOB_TOO_LONG = 1,                 /* job over 262,144 bytes; place 0 */
@@ -54,7 +55,9 @@ enum maizespell_refusal {
     MAIZESPELL_START_NOT_ON_TREE = 16,           /* the start */
     MAIZESPELL_MOVE_NOT_LEGAL = 17,              /* or it enters an unjoined pin early, or is the last and enters none:
                                                     the move; no move: the count */
-    MAIZESPELL_COST_DIFFERS = 18                 /* the cost */
+    MAIZESPELL_COST_DIFFERS = 18,                /* the cost */
+    MAIZESPELL_REPORT_SHORT_OR_OVER = 19         /* report, the plan accepted: fewer than 48 numbers: 8;
+                                                    a count would pass 2^64 - 1: the lowest such layer */
 };
 
 /* What the map holds for a vertex; 1 to 255 are metal of that net alone. Vertices go by layer, row and
@@ -65,10 +68,25 @@ enum maizespell_map {
     MAIZESPELL_MAP_OBSTACLE = 257
 };
 
+/* What the wire report counts of a plan. Number MAIZESPELL_REPORT_KINDS x layer + kind of the report counts a
+ * kind at a layer. */
+enum maizespell_report_kind {
+    MAIZESPELL_REPORT_STEPS = 0,         /* wire steps, at their layer */
+    MAIZESPELL_REPORT_VIAS = 1,          /* vias to the layer above, passed either way: at the lower layer */
+    MAIZESPELL_REPORT_ADDED = 2,         /* added steps, at the layer of the segment that they lengthen */
+    MAIZESPELL_REPORT_PENALISED = 3,     /* penalised segments, at their layer */
+    MAIZESPELL_REPORT_GUIDE_ENTRIES = 4, /* vertices entered outside the guide, at the layer entered */
+    MAIZESPELL_REPORT_SHORT_ENTRIES = 5, /* vertices entered that were taken, at the layer entered */
+    MAIZESPELL_REPORT_KINDS = 6,
+    MAIZESPELL_REPORT_LAYERS = 8,        /* for every job; also the place of 19 where the report is short */
+    MAIZESPELL_REPORT_NEED = 48          /* numbers of a report: layers x kinds */
+};
+
 /* The stack that a call needs, in bytes. */
 enum maizespell_stack {
     MAIZESPELL_SIZING_STACK = 18 * 1024,
     MAIZESPELL_REPLAY_STACK = 53 * 1024,
+    MAIZESPELL_REPORT_STACK = 53 * 1024,
     MAIZESPELL_ROUTING_STACK = 74 * 1024
 };
 
@@ -108,8 +126,8 @@ struct maizespell_routing_result {
 struct maizespell_routing_result maizespell_routing(const uint8_t *job, size_t job_len, uint16_t *map, size_t map_len,
                                                     uint64_t *work, size_t work_len, uint8_t *plan, size_t plan_len);
 
-/* What replay answers. Where the plan is accepted, refusal and place are 0. On a refusal, 1 to 13 or 15 to
- * 18, every number but it and its place is 0. */
+/* What replay and report answer. Where the plan is accepted, refusal and place are 0. On a refusal, 1 to 13,
+ * 15 to 18, and for report 19, every number but it and its place is 0. */
 struct maizespell_replay_result {
     uint64_t refusal;
     uint64_t place;
@@ -126,6 +144,19 @@ struct maizespell_replay_result {
 struct maizespell_replay_result maizespell_replay(const uint8_t *job, size_t job_len, const uint8_t *plan,
                                                   size_t plan_len, uint16_t *map, size_t map_len, uint64_t *work,
                                                   size_t work_len);
+
+/* Replays a plan and adds its counts to the report. It answers and leaves what replay does, but for 19 and
+ * for the report. The report is added to and not begun: lend zeros for the first plan, and after many it has
+ * the sum over those that were accepted. A plan's counts times its job's prices make exactly its cost: by
+ * kind wire price, via price, wire price, area penalty, guide penalty and short penalty. An entry counts also
+ * where its penalty is 0. The start of a join is no entry.
+ *
+ * A plan that replay accepts is refused by 19 where the report is short, or else where a count would pass
+ * 2^64 - 1. Then every number but refusal and place is 0, map and work are as after success, and nothing was
+ * added. After every refusal the report is as found, and so is always what lies past its need. */
+struct maizespell_replay_result maizespell_report(const uint8_t *job, size_t job_len, const uint8_t *plan,
+                                                  size_t plan_len, uint16_t *map, size_t map_len, uint64_t *work,
+                                                  size_t work_len, uint64_t *report, size_t report_len);
 
 #ifdef __cplusplus
 }

@@ -22,6 +22,11 @@ maizespell_routing_result lend_to_routing(const Bytes &job, Map &map, Work &work
                               plan.size());
 }
 
+Totals operator+(const Totals &left, const Totals &right) {
+    return {left.cost + right.cost, left.added + right.added, left.penalties + right.penalties,
+            left.joined + right.joined};
+}
+
 } // namespace
 
 bool operator==(const Totals &left, const Totals &right) {
@@ -61,6 +66,19 @@ Joined replay(const Bytes &job, const Bytes &plan, const Needs &needs) {
                                                               map.data(), map.size(), work.data(), work.size());
     throw_if_refused(result);
     return {map, totals_of(result)};
+}
+
+Reported nothing_reported() { return {Report(MAIZESPELL_REPORT_NEED), 0, {}}; }
+
+void report(const Bytes &job, const Bytes &plan, const Needs &needs, Reported &reported) {
+    Map map(needs.map);
+    Work work(needs.work);
+    const maizespell_replay_result result =
+        maizespell_report(job.data(), job.size(), plan.data(), plan.size(), map.data(), map.size(), work.data(),
+                          work.size(), reported.counts.data(), reported.counts.size());
+    throw_if_refused(result);
+    reported.plans += 1;
+    reported.totals = reported.totals + totals_of(result);
 }
 
 } // namespace host

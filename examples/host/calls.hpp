@@ -11,6 +11,7 @@ namespace host {
 using Bytes = std::vector<std::uint8_t>;
 using Map = std::vector<std::uint16_t>;
 using Work = std::vector<std::uint64_t>;
+using Report = std::vector<std::uint64_t>;
 
 // What routing and replay need of a job's slices.
 struct Needs {
@@ -38,6 +39,13 @@ struct Routed {
     Joined joined;
 };
 
+// The wire report over plans, how many they are, and their totals.
+struct Reported {
+    Report counts;
+    std::size_t plans;
+    Totals totals;
+};
+
 Needs size(const Bytes &job);
 
 // Plan bytes that are enough for most jobs.
@@ -48,6 +56,12 @@ std::size_t plan_guess(const Bytes &job, const Needs &needs);
 Routed route(const Bytes &job, const Needs &needs);
 
 Joined replay(const Bytes &job, const Bytes &plan, const Needs &needs);
+
+// The report over no plan.
+Reported nothing_reported();
+
+// Replays a plan and adds it to what is reported. Where it is refused, nothing is added.
+void report(const Bytes &job, const Bytes &plan, const Needs &needs, Reported &reported);
 
 } // namespace host
 

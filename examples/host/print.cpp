@@ -1,5 +1,8 @@
 #include "print.hpp"
 
+#include <algorithm>
+#include <array>
+#include <functional>
 #include <iomanip>
 #include <string>
 
@@ -32,6 +35,23 @@ std::string sign_of(std::uint16_t code) {
     }
 }
 
+constexpr std::size_t kinds = MAIZESPELL_REPORT_KINDS;
+
+// Columns of a table: a name, and a number or a word for each kind of count.
+template <class Columns> void print_line(std::ostream &out, const std::string &name, const Columns &columns) {
+    out << std::left << std::setw(5) << name << std::right;
+    for (const auto &column : columns) {
+        out << ' ' << std::setw(11) << column;
+    }
+    out << '\n';
+}
+
+// The counts of one layer.
+Report counts_of(const Report &counts, std::size_t layer) {
+    const auto first = counts.begin() + static_cast<std::ptrdiff_t>(kinds * layer);
+    return Report(first, first + kinds);
+}
+
 } // namespace
 
 void print_totals(std::ostream &out, const Needs &needs, const Routed &routed) {
@@ -56,6 +76,23 @@ void print_map(std::ostream &out, const Bytes &job, const Map &map) {
             out << '\n';
         }
     }
+}
+
+void print_report(std::ostream &out, const Reported &reported) {
+    const std::array<const char *, kinds> names{"wire steps", "vias", "added steps", "penalised", "guide", "short"};
+    print_line(out, "layer", names);
+    Report all(kinds);
+    for (std::size_t layer = 0; layer < MAIZESPELL_REPORT_LAYERS; ++layer) {
+        const Report counts = counts_of(reported.counts, layer);
+        if (counts != Report(kinds)) {
+            print_line(out, std::to_string(layer), counts);
+        }
+        std::transform(all.begin(), all.end(), counts.begin(), all.begin(), std::plus<>());
+    }
+    print_line(out, "all", all);
+    out << "plans " << reported.plans << '\n'
+        << "cost " << reported.totals.cost << '\n'
+        << "nets fully joined " << reported.totals.joined << '\n';
 }
 
 } // namespace host

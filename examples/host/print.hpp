@@ -1,4 +1,4 @@
-// What the host writes about a routed job.
+// What the host writes about a routed job and about a wire report.
 #ifndef HOST_PRINT_HPP
 #define HOST_PRINT_HPP
 
@@ -13,6 +13,9 @@ void print_totals(std::ostream &out, const Needs &needs, const Routed &routed);
 
 // Layer by layer, a line for each row: . bare, * several nets, # obstacle, else the net. For a good job.
 void print_map(std::ostream &out, const Bytes &job, const Map &map);
+
+// A line for each layer with a count, one for all of them, and how many plans with their cost and joined nets.
+void print_report(std::ostream &out, const Reported &reported);
 
 } // namespace host
 

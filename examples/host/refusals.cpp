@@ -33,14 +33,29 @@ constexpr std::array<Entry, 17> entries{{
     {MAIZESPELL_COST_DIFFERS, "cost differs", "plan bit"},
 }};
 
+// The two of the wire report, told apart by the place.
+constexpr Entry report_short{MAIZESPELL_REPORT_SHORT_OR_OVER, "report of fewer than 48 numbers", "place"};
+constexpr Entry count_over{MAIZESPELL_REPORT_SHORT_OR_OVER, "a count of the report would pass 2^64 - 1", "layer"};
+
+// The entry of a refusal, or null for a number without one.
+const Entry *entry_of(std::uint64_t number, std::uint64_t place) {
+    if (number == MAIZESPELL_REPORT_SHORT_OR_OVER) {
+        return place < MAIZESPELL_REPORT_LAYERS ? &count_over : &report_short;
+    }
+    for (const Entry &entry : entries) {
+        if (number == entry.number) {
+            return &entry;
+        }
+    }
+    return nullptr;
+}
+
 } // namespace
 
 std::string words_of_refusal(std::uint64_t number, std::uint64_t place) {
     const std::string refused = "refused " + std::to_string(number);
-    for (const Entry &entry : entries) {
-        if (number == entry.number) {
-            return refused + ", " + entry.words + ": " + entry.place + " " + std::to_string(place);
-        }
+    if (const Entry *entry = entry_of(number, place)) {
+        return refused + ", " + entry->words + ": " + entry->place + " " + std::to_string(place);
     }
     return refused + ", a number without a name: place " + std::to_string(place);
 }

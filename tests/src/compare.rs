@@ -1,10 +1,12 @@
 //! The library's answer to sizing beside the second reader's, and a tally of
-//! refusals. Replay and routing have their own, in `replay` and `routing`.
+//! refusals. Replay, the wire report and routing have their own, in `replay`,
+//! `wire_report` and `routing`.
 
 pub mod replay;
 mod report;
 pub mod routing;
 mod tally;
+pub mod wire_report;
 
 use std::collections::HashSet;
 use std::fmt;

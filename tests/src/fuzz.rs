@@ -1,10 +1,10 @@
 //! Rounds of the command `fuzz`. Each makes a job from its seed and asks every call
-//! about it, on guarded slices: good and damaged, with plans good and damaged, and with
-//! slices around their needs.
+//! about it, on guarded slices: good and damaged, with plans good and damaged, with
+//! slices around their needs, and with reports of all fillings.
 
 use std::fmt;
 
-use crate::compare::Tally;
+use crate::compare::{replay, wire_report, Tally};
 use crate::damage::{aimed, blind};
 use crate::generate::large::large_job;
 use crate::generate::routable::{any_routable_job, quick_routable_job};
@@ -24,7 +24,8 @@ const ANY_EVERY: u32 = 20;
 pub struct Fuzz {
     sizing: Tally,
     routing: Lent,
-    replay: Pairs,
+    replay: Pairs<replay::Comparison>,
+    report: Pairs<wire_report::Comparison>,
     rounds: u64,
 }
 
@@ -34,6 +35,7 @@ impl Default for Fuzz {
             sizing: Tally::default(),
             routing: Lent::of(guarded::routing, guarded::replay, 0),
             replay: Pairs::of(guarded::replay, 0),
+            report: Pairs::of_report(guarded::report, 0),
             rounds: 0,
         }
     }
@@ -48,6 +50,7 @@ impl Fuzz {
         self.ask_sizing(&job, random);
         self.routing.ask_all(random.draw(), &job);
         self.replay.ask_all(random.draw(), &job);
+        self.report.ask_all(random.draw(), &job);
     }
 
     pub fn rounds(&self) -> u64 {
@@ -80,6 +83,7 @@ impl Fuzz {
         self.sizing.assert_same();
         self.routing.comparison.tally.assert_same();
         self.replay.comparison.tally.assert_same();
+        self.report.comparison.tally.assert_same();
     }
 }
 
@@ -95,9 +99,10 @@ fn job(random: &mut Random) -> Job {
 
 impl fmt::Display for Fuzz {
     fn fmt(&self, f: &mut fmt::Formatter) -> fmt::Result {
-        let (routing, replay) = (&self.routing, &self.replay);
+        let (routing, replay, report) = (&self.routing, &self.replay, &self.report);
         writeln!(f, "sizing: {}", self.sizing)?;
         writeln!(f, "routing: {}{}", routing.comparison.tally, routing.seen)?;
-        write!(f, "replay: {}{}", replay.comparison.tally, replay.seen)
+        writeln!(f, "replay: {}{}", replay.comparison.tally, replay.seen)?;
+        write!(f, "report: {}{}", report.comparison.tally, report.seen)
     }
 }

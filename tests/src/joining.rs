@@ -136,7 +136,7 @@ impl<'a> NetAtHand<'a> {
             totals.added += u64::from(extension.steps());
         }
         totals.cost += walk.cost;
-        totals.penalties += walk.penalties;
+        totals.penalties += walk.penalised.len() as u64;
     }
 }
 
@@ -147,7 +147,7 @@ pub struct Walk {
     pub cost: u64,
     vertices: Vec<usize>,
     extensions: Vec<Extension>,
-    penalties: u64,
+    penalised: Vec<usize>,
 }
 
 impl Walk {
@@ -157,7 +157,7 @@ impl Walk {
             cost: 0,
             vertices: vec![vertex],
             extensions: Vec::new(),
-            penalties: 0,
+            penalised: Vec::new(),
         }
     }
 
@@ -170,11 +170,18 @@ impl Walk {
         &self.extensions
     }
 
+    /// The last vertices of its penalised segments: those that a via has left.
+    pub fn penalised(&self) -> &[usize] {
+        &self.penalised
+    }
+
     pub fn go(&mut self, step: Step) {
+        if step.penalised {
+            self.penalised.push(self.place.vertex);
+        }
         self.place = step.to;
         self.cost += step.cost();
         self.vertices.push(step.to.vertex);
         self.extensions.extend(step.extension);
-        self.penalties += u64::from(step.penalised);
     }
 }

@@ -6,12 +6,13 @@
 //!   `damage` makes both bad.
 //! - The second implementation reads jobs (`reader`, `sizing`), has the rules of
 //!   moves (`rules`) and nets (`joining`), searches joins (`router`) and has the calls
-//!   (`routing`, `replay`), the program (`program`) and the host (`host`). It is itself
-//!   held against every short route (`brute`).
+//!   (`routing`, `replay`, `report`), the program (`program`) and the host (`host`). It
+//!   is itself held against every short route (`brute`).
 //! - `library` has the library's calls, and `compare` asks both; `pairs` says which
-//!   jobs and plans replay is asked about, `lent` which jobs and slices routing is, and
-//!   `seen` what came up. `guarded` makes the calls on slices between pages that cannot
-//!   be touched, `fuzz` asks all of them so, `stack` makes them with little stack.
+//!   jobs and plans replay and the wire report are asked about, `filled` with which
+//!   reports, `lent` which jobs and slices routing is, and `seen` what came up.
+//!   `guarded` makes the calls on slices between pages that cannot be touched, `fuzz`
+//!   asks all of them so, `stack` makes them with little stack.
 //! - `built` finds the library, the program and the host.
 
 pub mod bits;
@@ -19,6 +20,7 @@ pub mod brute;
 pub mod built;
 pub mod compare;
 pub mod damage;
+pub mod filled;
 pub mod fuzz;
 pub mod generate;
 pub mod grid;
@@ -38,6 +40,7 @@ pub mod program;
 pub mod random;
 pub mod reader;
 pub mod replay;
+pub mod report;
 pub mod router;
 pub mod routing;
 pub mod rules;

@@ -1,6 +1,7 @@
 //! The library's calls, as `include/maizespell.h` declares them.
 
 use crate::replay::Replay;
+use crate::report::Report;
 use crate::routing::Routing;
 
 /// Refusal 0 is none. A refusal leaves vertices and work 0; a good job leaves
@@ -14,8 +15,8 @@ pub struct SizingResult {
     pub work: u64,
 }
 
-/// Refusal 0 is none. A refusal leaves the totals 0; a replayed plan leaves
-/// refusal and place 0.
+/// Of replay and of the wire report. Refusal 0 is none. A refusal leaves the totals 0;
+/// a replayed plan leaves refusal and place 0.
 #[repr(C)]
 #[derive(Clone, Copy, Debug, Default, PartialEq, Eq)]
 pub struct ReplayResult {
@@ -44,6 +45,9 @@ pub struct RoutingResult {
 /// The replay that the tests hold against the second one.
 pub const REPLAY: Replay = replay;
 
+/// The wire report that the tests hold against the second one.
+pub const REPORT: Report = report;
+
 /// The routing that the tests hold against the second one.
 pub const ROUTING: Routing = routing;
 
@@ -59,6 +63,19 @@ extern "C" {
         map_len: usize,
         work: *mut u64,
         work_len: usize,
+    ) -> ReplayResult;
+
+    pub(crate) fn maizespell_report(
+        job: *const u8,
+        job_len: usize,
+        plan: *const u8,
+        plan_len: usize,
+        map: *mut u16,
+        map_len: usize,
+        work: *mut u64,
+        work_len: usize,
+        report: *mut u64,
+        report_len: usize,
     ) -> ReplayResult;
 
     pub(crate) fn maizespell_routing(
@@ -94,6 +111,33 @@ fn replay(job: &[u8], plan: &[u8], map: &mut [u16], work: &mut [u64]) -> ReplayR
             map_len,
             work.as_mut_ptr(),
             work_len,
+        )
+    }
+}
+
+/// What the library says about this job and this plan, and adds to the report.
+fn report(
+    job: &[u8],
+    plan: &[u8],
+    map: &mut [u16],
+    work: &mut [u64],
+    report: &mut [u64],
+) -> ReplayResult {
+    let (map_len, work_len, report_len) = (map.len(), work.len(), report.len());
+    // SAFETY: each pointer and its length are of one live slice; the call only
+    // reads job and plan, and map, work and report are lent to it alone.
+    unsafe {
+        maizespell_report(
+            job.as_ptr(),
+            job.len(),
+            plan.as_ptr(),
+            plan.len(),
+            map.as_mut_ptr(),
+            map_len,
+            work.as_mut_ptr(),
+            work_len,
+            report.as_mut_ptr(),
+            report_len,
         )
     }
 }

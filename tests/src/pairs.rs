@@ -1,18 +1,19 @@
-//! Pairs of job and plan on which a replay is held against the second one: plans
-//! of the second router and plans that wander, damaged with an aim and without,
-//! bad jobs, and slices that are too short.
+//! Pairs of job and plan on which a replay or a wire report is held against the second
+//! one: plans of the second router and plans that wander, damaged with an aim and
+//! without, bad jobs, and slices that are too short.
 
 use crate::compare::replay::{Case, Comparison};
+use crate::compare::wire_report;
 use crate::damage::plan::shuffled::shuffled;
 use crate::damage::plan::{illegal_move, LegalPlan, AIMED};
 use crate::damage::{aimed, blind};
-use crate::generate::routable::any_routable_job;
 use crate::job::Job;
 use crate::library::ReplayResult;
 use crate::plan::{pack, Record};
 use crate::random::Random;
 use crate::reader::Refusal;
 use crate::replay::{refused, succeeded, Replay};
+use crate::report::Report;
 use crate::router::{route, Routed};
 use crate::rules::board::Board;
 use crate::seen::Seen;
@@ -21,10 +22,30 @@ use crate::wander::wandering_plan;
 /// Every so many jobs one is made too long.
 const TOO_LONG_EVERY: u32 = 100;
 
+/// A call that is asked about pairs.
+pub trait Asked {
+    /// What replay must answer to this pair. Whatever the call is lent beside it is made
+    /// by random numbers.
+    fn ask_pair(&mut self, case: &Case, random: &mut Random, seen: &mut Seen) -> ReplayResult;
+
+    /// The map slice that was left.
+    fn map_left(&self) -> &[u16];
+}
+
+impl Asked for Comparison {
+    fn ask_pair(&mut self, case: &Case, _: &mut Random, _: &mut Seen) -> ReplayResult {
+        self.ask(case)
+    }
+
+    fn map_left(&self) -> &[u16] {
+        self.expected_map()
+    }
+}
+
 /// Asks about generated jobs, each in some thirty pairs.
-pub struct Pairs {
+pub struct Pairs<A> {
     random: Random,
-    pub comparison: Comparison,
+    pub comparison: A,
     pub seen: Seen,
 }
 
@@ -35,19 +56,33 @@ struct Sized {
     work: usize,
 }
 
-impl Pairs {
+impl Pairs<Comparison> {
     /// This replay is asked.
     pub fn of(replay: Replay, seed: u64) -> Self {
+        Pairs::asking(Comparison::of(replay), seed)
+    }
+}
+
+impl Pairs<wire_report::Comparison> {
+    /// This wire report is asked.
+    pub fn of_report(report: Report, seed: u64) -> Self {
+        Pairs::asking(wire_report::Comparison::of(report), seed)
+    }
+}
+
+impl<A: Asked> Pairs<A> {
+    fn asking(comparison: A, seed: u64) -> Self {
         Pairs {
             random: Random::new(seed),
-            comparison: Comparison::of(replay),
+            comparison,
             seen: Seen::default(),
         }
     }
 
-    pub fn ask_jobs(&mut self, jobs: u32) {
+    /// Jobs made so, one in so many of them too long.
+    pub fn ask_jobs(&mut self, jobs: u32, make: fn(&mut Random) -> Job) {
         for count in 0..jobs {
-            let job = any_routable_job(&mut self.random);
+            let job = make(&mut self.random);
             self.ask_job(&job);
             if count % TOO_LONG_EVERY == 0 {
                 self.ask_too_long(&job);
@@ -91,21 +126,27 @@ impl Pairs {
 
     /// Asks with guard words beyond each need, at times with none.
     fn ask(&mut self, kind: &'static str, sized: &Sized, plan: &[u8]) -> ReplayResult {
-        self.seen.note(kind, 1);
-        self.comparison.ask(&Case {
+        let case = Case {
             kind,
             job: &sized.bytes,
             plan,
             map_len: sized.vertices + self.random.edgy(0, 9) as usize,
             work_len: sized.work + self.random.edgy(0, 9) as usize,
-        })
+        };
+        self.ask_case(&case)
+    }
+
+    fn ask_case(&mut self, case: &Case) -> ReplayResult {
+        self.seen.note(case.kind, 1);
+        let (random, seen) = (&mut self.random, &mut self.seen);
+        self.comparison.ask_pair(case, random, seen)
     }
 
     /// A legal plan must get its totals and its map.
     fn ask_legal(&mut self, kind: &'static str, sized: &Sized, routed: &Routed) {
         let result = self.ask(kind, sized, &pack(&routed.records));
         assert_eq!(result, succeeded(routed.joined.totals), "{kind}");
-        let map = &self.comparison.expected_map()[..sized.vertices];
+        let map = &self.comparison.map_left()[..sized.vertices];
         assert_eq!(map, routed.joined.map, "{kind}");
     }
 
@@ -169,8 +210,7 @@ impl Pairs {
             (short_map, short_work, 12, sized.vertices),
         ];
         for (map_len, work_len, number, need) in lengths {
-            self.seen.note("short slice", 1);
-            let result = self.comparison.ask(&Case {
+            let result = self.ask_case(&Case {
                 kind: "short slice",
                 job: &sized.bytes,
                 plan,
@@ -206,8 +246,7 @@ impl Pairs {
 
     fn ask_bad_job(&mut self, job: &[u8], sized: &Sized, plan: &[u8], refusal: Refusal) {
         let short = self.random.one_in(3);
-        self.seen.note("bad job", 1);
-        let result = self.comparison.ask(&Case {
+        let result = self.ask_case(&Case {
             kind: "bad job",
             job,
             plan,

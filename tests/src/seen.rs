@@ -1,5 +1,7 @@
 //! How often each kind of case, and each thing of note in jobs, came up.
 
+mod reports;
+
 use std::collections::BTreeMap;
 use std::fmt;
 

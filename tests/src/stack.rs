@@ -11,8 +11,9 @@ use std::path::Path;
 use std::process::{Command, Stdio};
 use std::thread;
 
-use crate::library::{self, RoutingResult, REPLAY, ROUTING};
+use crate::library::{self, ReplayResult, RoutingResult, REPLAY, REPORT, ROUTING};
 use crate::replay::replay;
+use crate::report::{report, Report};
 use crate::routing::{routing, Routing};
 use crate::sizing;
 use cases::{cases, Case};
@@ -20,6 +21,7 @@ use cases::{cases, Case};
 /// The stack that each call needs, in KiB, as `README.md` and the header state it.
 pub const SIZING_KIB: usize = 18;
 pub const REPLAY_KIB: usize = 53;
+pub const REPORT_KIB: usize = 53;
 pub const ROUTING_KIB: usize = 74;
 
 pub const KIB: usize = 1_024;
@@ -43,11 +45,18 @@ pub enum Call {
     None,
     Sizing,
     Replay,
+    Report,
     Routing,
 }
 
 impl Call {
-    pub const ALL: [Call; 4] = [Call::None, Call::Sizing, Call::Replay, Call::Routing];
+    pub const ALL: [Call; 5] = [
+        Call::None,
+        Call::Sizing,
+        Call::Replay,
+        Call::Report,
+        Call::Routing,
+    ];
 
     /// In bytes.
     pub fn stated(self) -> usize {
@@ -55,6 +64,7 @@ impl Call {
             Call::None => 0,
             Call::Sizing => SIZING_KIB,
             Call::Replay => REPLAY_KIB,
+            Call::Report => REPORT_KIB,
             Call::Routing => ROUTING_KIB,
         }
     }
@@ -64,6 +74,7 @@ impl Call {
             Call::None => "none",
             Call::Sizing => "sizing",
             Call::Replay => "replay",
+            Call::Report => "report",
             Call::Routing => "routing",
         }
     }
@@ -79,6 +90,7 @@ impl Call {
             Call::None => within(stack, || ()),
             Call::Sizing => sizing_within(stack, &cases()),
             Call::Replay => replay_within(stack, cases()),
+            Call::Report => report_within(stack, cases()),
             Call::Routing => routing_within(stack, cases()),
         }
     }
@@ -124,6 +136,27 @@ fn replay_within(stack: usize, mut cases: Vec<Case>) {
         }
     });
     assert_eq!(given, expected);
+}
+
+/// A call adds to its report, so each has its own.
+fn report_within(stack: usize, mut cases: Vec<Case>) {
+    let mut second = cases.clone();
+    let expected: Vec<_> = second
+        .iter_mut()
+        .map(|case| reported_by(report, case))
+        .collect();
+    let mut given = Vec::with_capacity(cases.len());
+    within(stack, || {
+        for case in &mut cases {
+            given.push(reported_by(REPORT, case));
+        }
+    });
+    assert_eq!(given, expected);
+}
+
+fn reported_by(report: Report, case: &mut Case) -> ReplayResult {
+    let (map, work) = (&mut case.map, &mut case.work);
+    report(&case.job, &case.plan, map, work, &mut case.report)
 }
 
 /// The plan slices are those of the cases: routed plans, shorter and longer.

@@ -104,14 +104,16 @@ fn bad_jobs_get_their_refusals() {
 #[test]
 fn wrong_usage_is_told_from_a_refusal() {
     for host in HOSTS {
-        check_said(&run(host, &[]), 2, "usage: host JOB-FILE [PLAN-FILE]\n");
+        let usage = "usage: host JOB-FILE [PLAN-FILE]\n\
+                     usage: host --report JOB-FILE PLAN-FILE [JOB-FILE PLAN-FILE ..]\n";
+        check_said(&run(host, &[]), 2, usage);
         let missing = [PathBuf::from("no such job")];
         let said = "no such job: cannot be opened\n";
         check_said(&run(host, &missing), 2, said);
     }
 }
 
-/// One line on standard error, nothing on standard output.
+/// This on standard error, nothing on standard output.
 fn check_said(output: &Output, status: i32, line: &str) {
     assert_eq!(String::from_utf8_lossy(&output.stderr), line);
     assert_eq!(output.status.code(), Some(status), "{line}");

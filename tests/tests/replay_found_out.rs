@@ -1,5 +1,6 @@
 //! The comparison itself: a replay with one small fault is found out.
 
+use maizespell_tests::generate::routable::any_routable_job;
 use maizespell_tests::pairs::Pairs;
 use maizespell_tests::reader::read;
 use maizespell_tests::replay::{replay, Replay};
@@ -82,7 +83,7 @@ const FAULTY: [(&str, Replay); 11] = [
 
 fn differences(replay: Replay) -> u64 {
     let mut pairs = Pairs::of(replay, SEED);
-    pairs.ask_jobs(JOBS);
+    pairs.ask_jobs(JOBS, any_routable_job);
     pairs.comparison.tally.differences
 }
 

@@ -7,6 +7,7 @@
 use std::time::Instant;
 
 use maizespell_tests::damage::plan::AIMED;
+use maizespell_tests::generate::routable::any_routable_job;
 use maizespell_tests::library::REPLAY;
 use maizespell_tests::pairs::Pairs;
 use maizespell_tests::reader::RETIRED;
@@ -19,7 +20,7 @@ const JOBS: u32 = 2_000;
 fn generated_plans_get_the_answer_of_the_second_replay() {
     let begin = Instant::now();
     let mut pairs = Pairs::of(REPLAY, SEED);
-    pairs.ask_jobs(JOBS);
+    pairs.ask_jobs(JOBS, any_routable_job);
     let (tally, seen) = (&pairs.comparison.tally, &pairs.seen);
     println!("{seen}{tally}in {:?}", begin.elapsed());
     tally.assert_same();

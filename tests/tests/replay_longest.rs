@@ -1,14 +1,18 @@
-//! A join with as many moves as its count can say, at high prices.
+//! A join with as many moves as its count can say, at high prices: replay and the wire
+//! report.
 
 use std::time::Instant;
 
 use maizespell_tests::compare::replay::{Case, Comparison};
+use maizespell_tests::compare::wire_report;
 use maizespell_tests::grid::vertex;
 use maizespell_tests::job::{GuideBox, Job, Layer, Net, CLOSED, EDITION};
 use maizespell_tests::library::{ReplayResult, REPLAY};
 use maizespell_tests::plan::{pack, Join, Record};
 use maizespell_tests::reader::Refusal;
 use maizespell_tests::replay::refused;
+use maizespell_tests::report::every_kind::counts;
+use maizespell_tests::report::{worth, COUNTS};
 use maizespell_tests::rules::moves::Move::{self, Down, High, Up};
 
 const MOST_MOVES: usize = (1 << 20) - 1;
@@ -62,16 +66,20 @@ fn cost() -> u64 {
     vias * u64::from(PRICE + PENALTY) + (vias - 1) * u64::from(PENALTY) + u64::from(PRICE)
 }
 
-fn answer(plan: &[u8]) -> ReplayResult {
-    let mut comparison = Comparison::of(REPLAY);
-    let begin = Instant::now();
-    let result = comparison.ask(&Case {
+fn case<'a>(job: &'a [u8], plan: &'a [u8]) -> Case<'a> {
+    Case {
         kind: "longest",
-        job: &job().pack(),
+        job,
         plan,
         map_len: 5,
         work_len: 300,
-    });
+    }
+}
+
+fn answer(plan: &[u8]) -> ReplayResult {
+    let mut comparison = Comparison::of(REPLAY);
+    let begin = Instant::now();
+    let result = comparison.ask(&case(&job().pack(), plan));
     println!("longest join, twice: {:?}", begin.elapsed());
     comparison.tally.assert_same();
     result
@@ -90,6 +98,19 @@ fn longest_join_passes() {
         ..ReplayResult::default()
     };
     assert_eq!(answer(&plan(High, cost())), expected);
+}
+
+/// Half of the vias go up, half down. The first leaves a segment that is paid.
+#[test]
+fn longest_join_is_counted() {
+    let (bytes, plan) = (job().pack(), plan(High, cost()));
+    let answer = wire_report::check(&case(&bytes, &plan), &[0; COUNTS]);
+    let vias = MOST_MOVES as u64 - 1;
+    let half = vias / 2;
+    let below = [1, vias, 0, half - 1, half, 0];
+    let above = [0, 0, 0, half, half, 0];
+    assert_eq!(answer.report, counts(&[below, above]));
+    assert_eq!(worth(&job(), &answer.report), cost());
 }
 
 #[test]

@@ -9,6 +9,7 @@
     views, prices, segments, overheads, steps   one move by the rules
     plan, standing, replay                      a plan's records, what they leave standing, and a plan walked (15 to 18)
     words, explain                              a job's totals and a plan in words
+    counts, report                              a plan's moves counted by layer and kind, and tables of many plans
     svg, colours, panel                         elements, the nets' colours, and where a layer stands
     ground, wiring, legend, draw                what a job draws, what a plan draws, what the marks mean, and the picture
     route                                       the program run on a job

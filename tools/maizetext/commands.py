@@ -11,6 +11,7 @@ from maizetext.files import (
 )
 from maizetext.job_packing import pack_job
 from maizetext.replay import replay
+from maizetext.report import Block, block_of, report
 from maizetext.route import plan_by_host, plan_by_program, program_path, summary
 from maizetext.text_writing import write_text
 
@@ -49,6 +50,20 @@ def draw_command(given: Namespace) -> int:
     return 0
 
 
+def report_command(given: Namespace) -> int:
+    """What plans are made of, in tables; 1 where one breaks, or where its counts do not make its cost."""
+    pairs = zip(given.files[::2], given.files[1::2])
+    text, right = report([block(job, plan) for job, plan in pairs])
+    write(text)
+    return 0 if right else 1
+
+
+def block(job_path: str, plan_path: str) -> Block:
+    """A job with its plan, under the names of their files."""
+    job = job_from_either(job_path, read_file(job_path))
+    return block_of(f"{job_path} {plan_path}", job, plan_from_either(plan_path, read_file(plan_path)))
+
+
 def route_command(given: Namespace) -> int:
     """The plan of the program or of the host, summed up."""
     data = bytes_from_either(given.job, read_file(given.job))
@@ -71,5 +86,6 @@ COMMANDS = {
     "unpack": unpack_command,
     "explain": explain_command,
     "draw": draw_command,
+    "report": report_command,
     "route": route_command,
 }

@@ -1,6 +1,6 @@
 """A plan in words: each net, each record, each move with its price in parts, and where the plan breaks."""
 
-from typing import Iterator
+from typing import Iterator, Optional
 
 from maizetext.grid import MOVES
 from maizetext.job import Job
@@ -69,6 +69,6 @@ def ends(over: Overhead) -> str:
     return ", ".join(f"{vertices(run)} at the {end} end" for end, run in laid if run)
 
 
-def dash(price: int) -> str:
+def dash(price: Optional[int]) -> str:
     """A part of a price; nothing is a dash."""
     return str(price) if price else "-"

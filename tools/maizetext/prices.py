@@ -1,6 +1,6 @@
 """The price of entering a vertex, in its parts."""
 
-from typing import NamedTuple
+from typing import NamedTuple, Optional
 
 from maizetext.errors import Illegal
 from maizetext.grid import DOWN, UP, Vertex
@@ -9,18 +9,22 @@ from maizetext.views import View
 
 
 class Price(NamedTuple):
-    """The wire or via price, the guide penalty and the short penalty."""
+    """The wire or via price, the guide penalty and the short penalty; one that does not apply is none."""
 
     base: int
-    guide: int
-    short: int
+    guide: Optional[int]
+    short: Optional[int]
+
+    def total(self) -> int:
+        """All parts that apply."""
+        return sum(part for part in self if part is not None)
 
 
 def entering(view: View, start: Vertex, into: Vertex, move: int) -> Price:
     """The price of a move that stays in the grid."""
     job = view.job
-    guide = 0 if view.guided(into) else penalty(job.guide, f"{into} lies outside the guide, whose penalty is closed")
-    short = penalty(job.short, f"{into} is taken, and the short penalty is closed") if view.taken(into) else 0
+    guide = None if view.guided(into) else penalty(job.guide, f"{into} lies outside the guide, whose penalty is closed")
+    short = penalty(job.short, f"{into} is taken, and the short penalty is closed") if view.taken(into) else None
     return Price(base(job, start, into, move), guide, short)
 
 

@@ -18,6 +18,7 @@ RULES = {
     16: "a start is not on the net's tree",
     17: "a move is not legal, enters an unjoined pin early, or is the last and enters none; or there is no move",
     18: "a recorded cost differs from the cost of the moves",
+    19: "the report has fewer than 48 numbers (at 8), or a count would pass 2^64 - 1 (at its layer)",
 }
 
 

@@ -28,7 +28,7 @@ class Made(NamedTuple):
 
     def cost(self) -> int:
         """The price of entering and the overhead."""
-        return sum(self.price) + self.over.price
+        return self.price.total() + self.over.price
 
 
 def step(view: View, place: Place, move: int) -> Made:

@@ -11,6 +11,7 @@ from promises.source import Definition, Source
 CALLS = {
     "maizespell_sizing": "crates/router/src/sizing.rt",
     "maizespell_replay": "crates/router/src/replay_call.rt",
+    "maizespell_report": "crates/router/src/report_call.rt",
     "maizespell_routing": "crates/router/src/routing_call.rt",
 }
 PROGRAM = {"line_of": "crates/maizespell/src/line.rt"}

@@ -54,8 +54,8 @@ class Refusals(unittest.TestCase):
             self.refused(data[:length], 2, ends[first] - widths[first])
 
     def test_each_refusal_has_words(self):
-        self.assertEqual(list(RULES), [number for number in range(1, 19) if number != 7])
-        self.assertEqual(len(set(RULES.values())), 17)
+        self.assertEqual(list(RULES), [number for number in range(1, 20) if number != 7])
+        self.assertEqual(len(set(RULES.values())), 18)
 
     def test_edition_before_size(self):
         self.refused(b"\x2f\xff\xff" + bytes(20), 3, 0)

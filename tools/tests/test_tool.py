@@ -1,7 +1,6 @@
 """The tool as a command: its output, its exit status, and errors of one line."""
 
 import os
-import tempfile
 import unittest
 from pathlib import Path
 from unittest import mock
@@ -10,7 +9,7 @@ import support
 from maizetext import route
 from maizetext.route import program_path
 from marked import job_bytes, plan_bytes
-from support import EXAMPLES, maize
+from support import EXAMPLES, Folder, maize
 
 A = EXAMPLES / "marked" / "a.txt"
 
@@ -23,27 +22,6 @@ net 4: joined  3 of 3 pins, cost 33, added steps 0, penalised segments 1
 net 5: open    1 of 2 pins, cost 0, added steps 0, penalised segments 0; open pins (0,7,8)
 totals: cost 107, added steps 6, penalised segments 1, nets fully joined 4 of 5
 """
-
-
-class Folder(unittest.TestCase):
-    """Tests with a folder for their files."""
-
-    def setUp(self):
-        folder = tempfile.TemporaryDirectory()
-        self.addCleanup(folder.cleanup)
-        self.folder = Path(folder.name)
-
-    def file(self, name: str, data: bytes) -> Path:
-        path = self.folder / name
-        path.write_bytes(data)
-        return path
-
-    def fails(self, done, status: int, part: str) -> None:
-        """One line on standard error, nothing on standard output."""
-        said = done.stderr.decode()
-        self.assertEqual((done.returncode, done.stdout), (status, b""), said)
-        self.assertEqual(said.count("\n"), 1, said)
-        self.assertIn(part, said)
 
 
 class Packing(Folder):
@@ -151,7 +129,7 @@ class Usage(Folder):
     def test_help(self):
         done = maize("--help")
         self.assertEqual(done.returncode, 0)
-        for command in (b"pack", b"unpack", b"explain", b"draw", b"route"):
+        for command in (b"pack", b"unpack", b"explain", b"draw", b"report", b"route"):
             self.assertIn(command, done.stdout)
 
     def test_the_tool_can_be_run(self):

@@ -20,7 +20,7 @@ use Rattle.job.proofs.Tests.{and-holds}
 
 -- "Number 7 is retired."
 abbrev pub inUse : ℕ → Bool
-inUse n = leb n 18 && not (eqb n 7)
+inUse n = leb n 19 && not (eqb n 7)
 
 -- 0 is answered where nothing is refused
 abbrev pub refuses : ℕ → Bool

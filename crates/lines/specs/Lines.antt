@@ -1,5 +1,5 @@
 -- The line that the program writes, as ASCII codes; a newline ends it.
--- Specification: section 6.5.
+-- Specification: section 6.6.
 --     hexLine         a plan: each byte as two capital hexadecimal digits, a space between two bytes; for no
 --                     bytes an empty line
 --     refusedLine     `refused N at P`, both decimal

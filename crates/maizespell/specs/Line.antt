@@ -2,7 +2,7 @@
 -- most 65,536 bytes, 256 vertices, M 7) and lends a plan of 65,536 bytes. It writes one line: the plan in
 -- hexadecimal .., or `refused N at P`, .., or `too large` where the job is good but past these limits or the
 -- bytes are too many."
--- Specification: section 6.5.
+-- Specification: section 6.6.
 --     lineOf         from the bytes
 --     readLine       from what reading them gave: a refused job is refused even past the limits
 --     goodLine       a good job

@@ -1,5 +1,7 @@
 -- Reading a join with arrays comes to what reading it by the definition comes to.
 --     JoinMeet       what the two readings have in common
+--     join-start     the vertex that a join starts at
+--     join-walks     where its moves lead
 --     join-follow    the law
 use Prim.Native.Nat.{ℕ, suc, _+_, _*_, _≤_, _<_}
 use mathlib.Core.Path.{_≡_, refl, sym, _∙_}
@@ -19,7 +21,7 @@ use Rattle.job.proofs.Grids.{number-below}
 use Rattle.rules.specs.Views.{member, viewOf}
 use Rattle.rules.specs.Prices.{techOf}
 use Rattle.rules.specs.Places.{GoodSegment, GoodPlace}
-use Rattle.rules.specs.Walks.{startAt, walked, walkCost, verticesOf}
+use Rattle.rules.specs.Walks.{startAt, walked, walk, walkCost, verticesOf}
 use Rattle.rules.specs.Standings.{Standing, joinedBy}
 use Rattle.rules.specs.Apart.{Stands}
 use Rattle.rules.proofs.Techs.{good-tech}
@@ -51,6 +53,19 @@ start-same g tree unjoined spots bits at held = by (inside g (vertexAt bits at))
         → (b && eqb (getD spots (vertexNumber g (vertexAt bits at)) 0) 1) ≡ (b && member (vertexNumber g (vertexAt bits at)) tree)
     by true e = spot-tree g tree unjoined spots _ (number-below g (vertexAt bits at) (rw e tt)) held
     by false e = refl
+
+-- the moves of a join that was read lead where it says
+pub join-walks : (B : List ℕ) → AllBelow 2 B → (j : Job) (k : ℕ) (s : Standing) (at : ℕ) (read : JoinRead) → readJoin B j k s at ≡ good read
+    → walk (techOf j) (viewOf j k (s .metal)) (startAt (read .start)) (read .moved .moves) ≡ walked (read .moved .last) (read .moved .made)
+unfolding readJoin
+join-walks B bits j k s at read = simp (steps, tests) (λ (w, (on, (some, (moved, reads, (w40, (costs, same)))))).
+    rw (← same) (moves-good B bits (techOf j) (viewOf j k (s .metal)) (s .unjoined) _ (at + 39) _ moved reads .walks))
+
+-- a join starts at the vertex that stands there
+pub join-start : (B : List ℕ) (j : Job) (k : ℕ) (s : Standing) (at : ℕ) (read : JoinRead) → readJoin B j k s at ≡ good read
+    → read .start ≡ vertexNumber (j .grid) (vertexAt B at)
+unfolding readJoin
+join-start B j k s at read = simp (steps, tests) (λ (w, (on, (some, (moved, reads, (w40, (costs, same)))))). sym (λ i. same i .start))
 
 module _ (B : List ℕ) (bits : AllBelow 2 B) {j : Job} (good-j : GoodJob j) (k : ℕ) (s : Standing) (apart : Stands (techOf j) s) where
   -- the end of the moves is among the vertices that they enter

@@ -21,11 +21,12 @@ use Rattle.rules.specs.Walks.{walkCost}
 use Rattle.rules.specs.Views.{View}
 use Rattle.rules.specs.Prices.{Tech}
 use Rattle.occupants.specs.declared.reached.Reached.{Reached}
+use Rattle.counts.proofs.Counting.{fit-under}
 use Rattle.walker.specs.Entering.{Arrays, Gone, goneAt}
 use Rattle.walker.specs.Structs.{IsWalk}
 use Rattle.walker.specs.declared.Walk.{Walk}
-use Rattle.replay.specs.Following.{Came, came, stopped, andOn, andRead, arraysOf, movesFrom, Start, readStart, readCost, Joined, costFrom, joinFrom}
-use Rattle.replay.specs.Structs.{startRead, costRead, IsMoves, IsJoin, JoinFits}
+use Rattle.replay.specs.Following.{Came, came, stopped, andOn, andRead, arraysOf, movesFrom, Start, readStart, readCost, Joined, costFrom, joinFrom, withJoinCounts}
+use Rattle.replay.specs.Structs.{startRead, costRead, IsMoves, CountedMoves, IsJoin, JoinFits, CountedJoin}
 use Rattle.replay.specs.declared.moves.MovesRead.{MovesRead}
 use Rattle.replay.specs.declared.join.JoinRead.{JoinRead}
 use Rattle.replay.specs.declared.join.JoinRead.the-variants as Join
@@ -119,7 +120,27 @@ start-bounds bits g spots at {v = v} {m = m} below is told = bounds (start-read 
         let moves : field bits (at + 19) 20 ≡ m = λ i. same i .moves in
         (rw vertex at (number-below g (vertexAt bits at) in-grid), rw moves at (field-below bits (at + 19) 20 below)))
 
-module _ (bits : List ℕ) (t : Tech) (view : View) (net at : ℕ) (arrays : Arrays) {r : StartRead} (is : r ≡ startRead (readStart bits (t .grid) (arrays .spots) at)) where
+-- a start's vertex is the one that stands there
+start-is : (bits : List ℕ) (g : Grid) (spots : List ℕ) (at : ℕ) {start : Start} → readStart bits g spots at ≡ good start
+    → start .vertex ≡ vertexNumber g (vertexAt bits at)
+unfolding readStart
+start-is bits g spots at = simp (steps, tests) (λ (w, ((in-grid, on), (some, same))). sym (λ i. same i .vertex))
+
+-- the counts of moves, after their cost
+cost-counted : (bits : List ℕ) (t : Tech) (view : View) (at : ℕ) {start : ℕ} → start ≡ vertexNumber (t .grid) (vertexAt bits at) → (end : ℕ) (x : Came Gone)
+    (before after : List ℕ) → CountedMoves (t .grid) view start x end before after → CountedJoin bits t view at (costFrom bits end x) before after
+unfolding CountedMoves CountedJoin costFrom andOn andRead withJoinCounts costRead
+cost-counted bits t view at here end (stopped n p arrays) before after counts = tt
+cost-counted bits t view at here end (came gone arrays) before after counts = by (readCost bits end (walkCost (gone .made))) refl
+  where
+    by : (c : Read ℕ) → readCost bits end (walkCost (gone .made)) ≡ c
+        → CountedJoin bits t view at (andRead arrays c (λ next. came (record { gone = gone; next = next }) arrays)) before after
+    by (refused n p) e = tt
+    by (good next) e =
+        let past : next ≡ end + 40 = cost-next bits end (walkCost (gone .made)) refl (ap costRead e) in
+        (rw (← here) (counts .0), fit-under _ (counts .1) (omega (arith, past)))
+
+module _ (bits : List ℕ) (t : Tech) (view : View) (net at : ℕ) (arrays : Arrays) (before : List ℕ) {r : StartRead} (is : r ≡ startRead (readStart bits (t .grid) (arrays .spots) at)) where
   -- a join whose start is refused
   pub join-refused : {n p : ℕ} → r ≡ StartRead.Refused n p
       → joinFrom bits t view net at arrays ≡ stopped n p arrays
@@ -133,33 +154,36 @@ module _ (bits : List ℕ) (t : Tech) (view : View) (net at : ℕ) (arrays : Arr
   join-started told = rw (start-read (readStart bits (t .grid) (arrays .spots) at) (sym is ∙ told)) refl
 
   -- what a join is, with its answer's numbers and its arrays
-  abbrev pub Reads : (most : ℕ) → JoinRead → (spots codes : List ℕ) → Type 0
-  Reads most answer spots codes =
+  abbrev pub Reads : (most : ℕ) → JoinRead → (spots codes counts : List ℕ) → Type 0
+  Reads most answer spots codes counts =
       IsJoin answer (joinFrom bits t view net at arrays)
       × (JoinFits most answer
-      × ((spots ≡ arraysOf (joinFrom bits t view net at arrays) .spots) × (codes ≡ arraysOf (joinFrom bits t view net at arrays) .codes)))
+      × ((spots ≡ arraysOf (joinFrom bits t view net at arrays) .spots)
+      × ((codes ≡ arraysOf (joinFrom bits t view net at arrays) .codes) × CountedJoin bits t view at (joinFrom bits t view net at arrays) before counts)))
 
   -- a join whose start is refused, as the code answers
-  pub refused-join : {n p : ℕ} (most : ℕ) → r ≡ StartRead.Refused n p → Reads most (Join.Refused n p) (arrays .spots) (arrays .codes)
-  unfolding IsJoin JoinFits arraysOf
-  refused-join most told = rw (join-refused told) ((refl, refl), (tt, (refl, refl)))
+  pub refused-join : {n p : ℕ} (most : ℕ) → r ≡ StartRead.Refused n p → Reads most (Join.Refused n p) (arrays .spots) (arrays .codes) before
+  unfolding IsJoin JoinFits CountedJoin arraysOf
+  refused-join most told = rw (join-refused told) ((refl, refl), (tt, (refl, (refl, tt))))
 
   -- a join whose start is good, as the code answers
-  pub started-join : {v m : ℕ} (moves : MovesRead) (answer : JoinRead) {spots codes : List ℕ} → r ≡ StartRead.At v m → m < 2 ^ 20
+  pub started-join : {v m : ℕ} (moves : MovesRead) (answer : JoinRead) {spots codes : List ℕ} (counts : List ℕ) → r ≡ StartRead.At v m → m < 2 ^ 20
       → IsMoves moves (movesFrom bits t view net m (at + 39) (goneAt v) arrays)
       → spots ≡ arraysOf (movesFrom bits t view net m (at + 39) (goneAt v) arrays) .spots
       → codes ≡ arraysOf (movesFrom bits t view net m (at + 39) (goneAt v) arrays) .codes
+      → CountedMoves (t .grid) view v (movesFrom bits t view net m (at + 39) (goneAt v) arrays) (at + 39 + 2 * m) before counts
       → ((x : Came Gone) → IsMoves moves x → IsJoin answer (costFrom bits (at + 39 + 2 * m) x)) → JoinFits (at + 39 + 2 * m + 40) answer
-      → Reads (at + 2 ^ 22) answer spots codes
+      → Reads (at + 2 ^ 22) answer spots codes counts
   unfolding JoinFits
-  started-join {v} {m} moves answer told few walked put laid ended fits =
+  started-join {v} {m} moves answer counts told few walked put laid tallied ended fits =
       let x = movesFrom bits t view net m (at + 39) (goneAt v) arrays in
       let left = sym (cost-arrays bits (at + 39 + 2 * m) x) in
+      let here = start-is bits (t .grid) (arrays .spots) at (start-read (readStart bits (t .grid) (arrays .spots) at) (sym is ∙ told)) in
       rw (join-started told) (
         ended x walked,
         (
           fits-more answer fits (omega arith),
-          (put ∙ ap (λ (a : Arrays). a .spots) left, laid ∙ ap (λ (a : Arrays). a .codes) left),
+          (put ∙ ap (λ (a : Arrays). a .spots) left, (laid ∙ ap (λ (a : Arrays). a .codes) left, cost-counted bits t view at here (at + 39 + 2 * m) x before counts tallied)),
         ),
       )
     where

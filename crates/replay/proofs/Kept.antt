@@ -22,7 +22,7 @@ use Rattle.tree.specs.Spots.{someUnjoined}
 use Rattle.walker.specs.Entering.{Arrays, enterBy, Gone, goneAt, goneOn}
 use Rattle.walker.proofs.Landing.{step-lands}
 use Rattle.walker.proofs.Entering.{enter-kept}
-use Rattle.replay.specs.Following.{Came, came, stopped, andOn, andRead, arraysOf, judgedMove, movesFrom, Start, readStart, Joined, costFrom, joinFrom, Ended, byFlag, netFrom}
+use Rattle.replay.specs.Following.{Came, came, stopped, andOn, andRead, arraysOf, judgedMove, movesFrom, Start, readStart, Joined, costFrom, joinFrom, Ended, byFlag, withJoinCounts, netFrom}
 use Rattle.replay.specs.Structs.{startRead}
 use Rattle.replay.proofs.Parts.{judged-step}
 use Rattle.replay.proofs.Joining.{cost-arrays, start-bounds}
@@ -61,34 +61,37 @@ module _ (bits : List ℕ) (below : AllBelow 2 bits) {t : Tech} (view : View) (n
           rw (cost-arrays bits (at + 39 + 2 * start .moves) _) (moves-kept (start .moves) (at + 39) (goneAt (start .vertex)) arrays (start-good (bounds .0)))
 
   -- while the records of a net are read
-  pub net-kept : (pins : List ℕ) (n at : ℕ) (totals : Totals) (arrays : Arrays) → Keeps arrays (netFrom bits t view net pins n at totals arrays)
+  pub net-kept : (pins : List ℕ) (n at : ℕ) (totals : Totals) (counts : List ℕ) (arrays : Arrays)
+      → Keeps arrays (netFrom bits t view net pins n at totals counts arrays)
   unfolding netFrom andRead andOn byFlag arraysOf
-  net-kept pins zero at totals arrays = beyond-refl _ _
-  net-kept pins (suc n) at totals arrays =
-      bySome (someUnjoined (arrays .spots) pins) (λ at totals arrays. net-kept pins n at totals arrays)
+  net-kept pins zero at totals counts arrays = beyond-refl _ _
+  net-kept pins (suc n) at totals counts arrays =
+      bySome (someUnjoined (arrays .spots) pins) (λ at totals counts arrays. net-kept pins n at totals counts arrays)
     where
       records : Joined → Arrays → Came Ended
-      records joined after = netFrom bits t view net pins n (joined .next) (withJoin totals (joined .gone .made)) after
+      records joined after =
+          netFrom bits t view net pins n (joined .next) (withJoin totals (joined .gone .made))
+          (withJoinCounts bits t view (at + 1) (joined .gone .made) counts) after
 
       Rest : Type 0
-      Rest = (at : ℕ) (totals : Totals) (arrays : Arrays) → Keeps arrays (netFrom bits t view net pins n at totals arrays)
+      Rest = (at : ℕ) (totals : Totals) (counts : List ℕ) (arrays : Arrays) → Keeps arrays (netFrom bits t view net pins n at totals counts arrays)
 
       byJoin : Rest → (x : Came Joined) → Keeps arrays x → Keeps arrays (andOn x records)
       byJoin rest (stopped m q after) kept = kept
-      byJoin rest (came joined after) kept = beyond-trans (rest (joined .next) (withJoin totals (joined .gone .made)) after) kept
+      byJoin rest (came joined after) kept = beyond-trans (rest (joined .next) (withJoin totals (joined .gone .made)) _ after) kept
 
       byFlagged : Rest → (flag : ℕ)
-          → Keeps arrays (byFlag flag (came (record { totals = totals; next = at + 1 }) arrays) (andOn (joinFrom bits t view net (at + 1) arrays) records))
+          → Keeps arrays (byFlag flag (came (record { totals = totals; counts = counts; next = at + 1 }) arrays) (andOn (joinFrom bits t view net (at + 1) arrays) records))
       byFlagged rest zero = beyond-refl _ _
       byFlagged rest (suc one) = byJoin rest (joinFrom bits t view net (at + 1) arrays) (join-kept (at + 1) arrays)
 
       byWhole : Rest → (x : Read Unit) → Keeps arrays (andRead arrays x (λ whole. byFlag (field bits at 1)
-          (came (record { totals = totals; next = at + 1 }) arrays) (andOn (joinFrom bits t view net (at + 1) arrays) records)))
+          (came (record { totals = totals; counts = counts; next = at + 1 }) arrays) (andOn (joinFrom bits t view net (at + 1) arrays) records)))
       byWhole rest (refused m q) = beyond-refl _ _
       byWhole rest (good whole) = byFlagged rest (field bits at 1)
 
       bySome : (b : Bool) → Rest → Keeps arrays (cond b (andRead arrays (group bits at 1) (λ whole. byFlag (field bits at 1)
-          (came (record { totals = totals; next = at + 1 }) arrays) (andOn (joinFrom bits t view net (at + 1) arrays) records)))
-          (came (record { totals = withNet totals; next = at }) arrays))
+          (came (record { totals = totals; counts = counts; next = at + 1 }) arrays) (andOn (joinFrom bits t view net (at + 1) arrays) records)))
+          (came (record { totals = withNet totals; counts = counts; next = at }) arrays))
       bySome true rest = byWhole rest (group bits at 1)
       bySome false rest = beyond-refl _ _

@@ -1,9 +1,10 @@
 -- The turns of reading a plan net by net.
 --     net-answer       what the code answers of a net is what reading it by the definition comes to
+--     net-counted      and so are the counts after it
 --     Netting          what has been read, and that the rest gives the whole
-use Prim.Native.Nat.{ℕ, suc, _+_, _-_, _*_, _≤_, _<_}
+use Prim.Native.Nat.{ℕ, suc, _+_, _-_, _*_, _^_, _≤_, _<_}
 use mathlib.Core.Path.{_≡_, refl, sym, ap, subst, _∙_}
-use mathlib.Core.List.{List, [], _∷_, _++_, append-assoc}
+use mathlib.Core.List.{List, [], _∷_, _++_, append-assoc, append-nil, flatMap}
 use native.Mathlib.Omega.{arith}
 use lib.ListN.{length, take, replicate}
 use Rattle.bits.specs.Bits.{bitsOf}
@@ -24,6 +25,10 @@ use Rattle.plan.specs.Reading.{Progress, readNet, readNets}
 use Rattle.plan.specs.Legal.{NetEntries, allJoined, gaveUp, joins}
 use Rattle.plan.proofs.NetRead.{net-good}
 use Rattle.plan.proofs.Unjoined.{begun-length}
+use Rattle.counts.specs.Counts.{Count, counted, planCounts}
+use Rattle.counts.specs.Structs.{CountsFit}
+use Rattle.counts.proofs.Adding.{counted-append}
+use Rattle.counts.proofs.PlanWorth.{counts-append}
 use Rattle.metal.specs.Codes.{Beyond}
 use Rattle.metal.proofs.Slices.{beyond-trans}
 use Rattle.tree.specs.Spots.{begunSpots}
@@ -33,23 +38,35 @@ use Rattle.walker.specs.Standing.{AtNet}
 use Rattle.walker.proofs.Metals.{Later, later-none, later-more, later-on}
 use Rattle.walker.proofs.Nets.{Nets, empty, nets-begun, rules, grid, nets-few, hand, own, own-below, own-pins, own-count, first, at-net, one-on, nets-on}
 use Rattle.replay.specs.Following.{Came, arraysOf, Ended, netFrom}
-use Rattle.replay.specs.Structs.{IsNet, NetFits, IsNets}
+use Rattle.replay.specs.Structs.{IsNet, CountedNet, NetFits, IsNets, CountedNets}
 use Rattle.replay.specs.declared.net.NetRead.{NetRead}
 use Rattle.replay.proofs.Follow.{Follow, bothRefused, bothGood}
 use Rattle.replay.proofs.NetFollow.{NetMeet, net-follow}
 use Rattle.replay.proofs.Kept.{net-kept}
 
 -- what the code answers of a net is what reading it by the definition comes to
-net-answer : (g : Grid) (r : NetRead) {x : Read Progress} (y : Came Ended) → Follow (NetMeet g) x y → IsNet r y → IsNets g r x (arraysOf y .codes)
+net-answer : (j : Job) (counts : List ℕ) (r : NetRead) {x : Read Progress} (y : Came Ended) → Follow (NetMeet j counts) x y → IsNet r y
+    → IsNets (j .grid) r x (arraysOf y .codes)
 unfolding IsNet IsNets arraysOf
-net-answer g (NetRead.Refused n p) y (bothRefused {n = m} {p = q} e f) is =
+net-answer j counts (NetRead.Refused n p) y (bothRefused {n = m} {p = q} e f) is =
     let (number, place) = rw f at is in
     e ∙ (λ i. refused (sym number i) (sym place i))
-net-answer g (NetRead.Refused n p) y (bothGood e f m) is = absurd (rw f at is)
-net-answer g (NetRead.Ended totals next) y (bothRefused e f) is = absurd (rw f at is)
-net-answer g (NetRead.Ended totals next) y (bothGood {a = all} e f m) is =
+net-answer j counts (NetRead.Refused n p) y (bothGood e f m) is = absurd (rw f at is)
+net-answer j counts (NetRead.Ended totals next) y (bothRefused e f) is = absurd (rw f at is)
+net-answer j counts (NetRead.Ended totals next) y (bothGood {a = all} e f m) is =
     let (totals-same, next-same) = rw f at is in
     rw f (all, e, totals-same ∙ ap (λ (z : Ended). z .totals) (m .0), next-same ∙ ap (λ (z : Ended). z .next) (m .0), m .1)
+
+-- and so are the counts after it
+net-counted : (j : Job) (counts : List ℕ) {x : Read Progress} (y : Came Ended) (after : List ℕ) {all : Progress} → Follow (NetMeet j counts) x y → CountedNet y after
+    → x ≡ good all → (after ≡ counted (planCounts j (all .entries)) counts) × CountsFit (2 ^ 22 * all .at) after
+unfolding CountedNet
+net-counted j counts y after (bothRefused e f) is good-x = let z : _≡_ {A = ℕ} 0 1 = cc in absurd (omega arith)
+net-counted j counts y after {all} (bothGood {a = a} {b = ended} e f m) is good-x =
+    let same : a ≡ all = cc in
+    let (sums, few) = rw f at is in
+    let ends = m .0 in
+    rw (← same) (sums ∙ (λ i. ends i .counts), subst (λ (n : ℕ). CountsFit (2 ^ 22 * n) after) (λ i. ends i .next) few)
 
 -- the records of a net leave the metal of the nets to come
 net-metals : (j : Job) (k : ℕ) {s : Standing} {es : List Entry} {metal : List (List ℕ)} → NetEntries j k s es metal → Later k (s .metal) metal
@@ -78,9 +95,9 @@ unfolding _>>=_ withEntries
 none-before (refused n p) = refl
 none-before (good all) = refl
 
-module _ (bytes : List ℕ) (tech : TechStruct) (occupants found B : List ℕ) (below : AllBelow 2 B) where
+module _ (bytes : List ℕ) (tech : TechStruct) (occupants found B : List ℕ) (below : AllBelow 2 B) (counts₀ : List ℕ) where
   -- so many nets are left: the rest from here gives the whole
-  pub record Netting (codes pins boxes : List ℕ) (position at : ℕ) (totals : TotalsStruct) (net left : ℕ) : Type 0 where
+  pub record Netting (codes counts pins boxes : List ℕ) (position at : ℕ) (totals : TotalsStruct) (net left : ℕ) : Type 0 where
     pub count : ℕ
     pub start : ℕ
     pub held : NetsHeld bytes tech occupants found count start
@@ -92,12 +109,15 @@ module _ (bytes : List ℕ) (tech : TechStruct) (occupants found B : List ℕ) (
     pub same : readNets B (held .job) 0 (held .job .nets) (metalAtFirst (held .job)) noTotals 0
         ≡ _>>=_ (readNets B (held .job) (length before) after metal (totalsOf totals) at) (λ p. good (withEntries entries p))
     pub bounded : Bounded (16 * net + 16) totals at
+    pub tallied : counts ≡ counted (planCounts (held .job) entries) counts₀
+    pub small : CountsFit (2 ^ 22 * at) counts
 
   -- before the first net
   pub netting-begun : {count start : ℕ} {pins boxes : List ℕ} → NetsHeld bytes tech occupants found count start → length pins ≡ 16 → length boxes ≡ 90
-      → {totals : TotalsStruct} → totals ≡ record { cost = 0; added = 0; penalties = 0; joined = 0 } → Netting found pins boxes start 0 totals 0 count
-  unfolding noTotals
-  netting-begun {count} {start} held sixteen ninety none =
+      → {totals : TotalsStruct} → totals ≡ record { cost = 0; added = 0; penalties = 0; joined = 0 } → CountsFit 0 counts₀
+      → Netting found counts₀ pins boxes start 0 totals 0 count
+  unfolding noTotals flatMap counted
+  netting-begun {count} {start} held sixteen ninety none small =
       rw none (record {
         count = count;
         start = start;
@@ -109,9 +129,12 @@ module _ (bytes : List ℕ) (tech : TechStruct) (occupants found B : List ℕ) (
         entries = [];
         same = none-before _;
         bounded = record { cost = omega arith; added = omega arith; penalties = omega arith; joined = omega arith; reach = omega arith };
+        tallied = refl;
+        small = small;
       })
 
-  module _ {codes pins boxes : List ℕ} {position at : ℕ} {totals : TotalsStruct} {net left : ℕ} (so-far : Netting codes pins boxes position at totals net left) where
+  module _ {codes counts pins boxes : List ℕ} {position at : ℕ} {totals : TotalsStruct} {net left : ℕ}
+      (so-far : Netting codes counts pins boxes position at totals net left) where
     abbrev job : Job
     job = so-far .held .job
 
@@ -144,11 +167,11 @@ module _ (bytes : List ℕ) (tech : TechStruct) (occupants found B : List ℕ) (
 
       abbrev records : Came Ended
       records =
-          netFrom B (techBy tech) view (net + 1) (take (loaded .pins) pins′) (loaded .pins) at (totalsOf totals)
+          netFrom B (techBy tech) view (net + 1) (take (loaded .pins) pins′) (loaded .pins) at (totalsOf totals) counts
           (record { spots = begunSpots (take (loaded .pins) pins′) (replicate 16384 0); codes = codes })
 
       -- they follow each other
-      follows : Follow (NetMeet (job .grid)) this records
+      follows : Follow (NetMeet job counts) this records
       follows =
           let number : net + 1 ≡ suc k = omega (arith, so-far .nets .number) in
           rw (
@@ -158,7 +181,7 @@ module _ (bytes : List ℕ) (tech : TechStruct) (occupants found B : List ℕ) (
             own-count bytes tech occupants found (so-far .held) (so-far .nets) some isLoaded isPins isBoxes,
           )
           (net-follow B below (rules bytes tech occupants found (so-far .held)) k view pins-own (own-below bytes tech occupants found (so-far .held) (so-far .nets) some)
-          (length pins-own) (begun pins-own (so-far .metal)) (totalsOf totals) at _ at-first)
+          (length pins-own) (begun pins-own (so-far .metal)) (totalsOf totals) counts at _ at-first)
 
       -- the whole is this net, and the rest
       abbrev after-this : Read Progress → Read Progress
@@ -178,12 +201,13 @@ module _ (bytes : List ℕ) (tech : TechStruct) (occupants found B : List ℕ) (
       unfolding techBy
       kept-on =
           beyond-trans (subst (λ (g : Grid). Beyond (vertices g) (arraysOf records .codes) codes) same-grid
-          (net-kept B below view (net + 1) (so-far .held .fits .good) (take (loaded .pins) pins′) (loaded .pins) at (totalsOf totals) _)) (so-far .nets .kept)
+          (net-kept B below view (net + 1) (so-far .held .fits .good) (take (loaded .pins) pins′) (loaded .pins) at (totalsOf totals) counts _)) (so-far .nets .kept)
 
-      module _ (r : NetRead) {codes′ : List ℕ} (is : IsNet r records) (left-codes : codes′ ≡ arraysOf records .codes) where
+      module _ (r : NetRead) {codes′ : List ℕ} (counts′ : List ℕ) (is : IsNet r records) (left-codes : codes′ ≡ arraysOf records .codes)
+          (sums : CountedNet records counts′) where
         -- what the code answers of it
         answers : IsNets (job .grid) r this codes′
-        answers = rw left-codes (net-answer (job .grid) r records follows is)
+        answers = rw left-codes (net-answer job counts r records follows is)
 
         -- past the grid the map is as found
         pub netting-kept : Beyond (vertices (gridOf (tech .grid))) codes′ found
@@ -192,18 +216,21 @@ module _ (bytes : List ℕ) (tech : TechStruct) (occupants found B : List ℕ) (
         -- a net that is refused
         pub netting-refused : {n p : ℕ} → r ≡ NetRead.Refused n p → (j : Job) → readJob bytes ≡ good j
             → IsNets (gridOf (tech .grid)) (NetRead.Refused n p) (readNets B j 0 (j .nets) (metalAtFirst j) noTotals 0) codes′
-        unfolding IsNets _>>=_
+            × CountedNets j (readNets B j 0 (j .nets) (metalAtFirst j) noTotals 0) counts₀ counts′
+        unfolding IsNets CountedNets _>>=_
         netting-refused told j read =
             let same : job ≡ j = cc (so-far .held .read) in
             let e : this ≡ _ = rw told at answers in
-            rw (← same) (one-net ∙ ap after-this e)
+            let whole : readNets B job 0 (job .nets) (metalAtFirst job) noTotals 0 ≡ refused _ _ = one-net ∙ ap after-this e in
+            rw (← same) (whole, rw whole tt)
 
         -- a net that is read
         pub netting-on : {more : TotalsStruct} {next : ℕ} → r ≡ NetRead.Ended more next → NetFits (16 * (net + 1) + 16) r
-            → Netting codes′ pins′ boxes′ (loaded .next) next more (net + 1) (left - 1)
+            → Netting codes′ counts′ pins′ boxes′ (loaded .next) next more (net + 1) (left - 1)
         unfolding IsNets NetFits readNets _>>=_
         netting-on {more} {next} told fits =
             let (all, e, totals-same, next-same, coded) = rw told at answers in
+            let (own-counts, few) = net-counted job counts records counts′ follows sums e in
             let many = one-on bytes tech occupants found (so-far .held) (so-far .nets) some isLoaded isPins isBoxes in
             let metals = net-metals job k (net-good B below (rules bytes tech occupants found (so-far .held)) k (length pins-own) (begun pins-own (so-far .metal)) (totalsOf totals) at all
             (at-first .apart) (begun-length pins-own (so-far .metal)) e .entries) in
@@ -221,22 +248,24 @@ module _ (bytes : List ℕ) (tech : TechStruct) (occupants found B : List ℕ) (
                   ∙ (λ i. _>>=_ (readNets B job (sym many i) others (all .metal) (sym totals-same i) (sym next-same i))
                   (λ p. good (withEntries (so-far .entries ++ all .entries) p)));
               bounded = rw told at fits;
+              tallied =
+                  own-counts ∙ ap (counted (planCounts job (all .entries))) (so-far .tallied)
+                  ∙ sym (ap (λ (cs : List Count). counted cs counts₀) (counts-append job (so-far .entries) (all .entries))
+                  ∙ counted-append (planCounts job (so-far .entries)) (planCounts job (all .entries)) counts₀);
+              small = rw next-same few;
             }
 
     -- no net is left
     pub netting-done : left ≤ 0 → (j : Job) → readJob bytes ≡ good j
         → IsNets (gridOf (tech .grid)) (NetRead.Ended totals at) (readNets B j 0 (j .nets) (metalAtFirst j) noTotals 0) codes
-    unfolding IsNets readNets _>>=_ withEntries
+        × CountedNets j (readNets B j 0 (j .nets) (metalAtFirst j) noTotals 0) counts₀ counts
+    unfolding IsNets CountedNets readNets _>>=_ withEntries
     netting-done none j read =
         let same : job ≡ j = cc (so-far .held .read) in
         let no-net : so-far .after ≡ [] = empty (so-far .after) (omega (arith, so-far .nets .rest)) in
-        rw (← same, same-grid) (
-          withEntries (so-far .entries) (record { entries = []; metal = so-far .metal; totals = totalsOf totals; at = at }),
-          so-far .same ∙ rw no-net refl,
-          refl,
-          refl,
-          so-far .nets .coded,
-        )
+        let all : Progress = withEntries (so-far .entries) (record { entries = []; metal = so-far .metal; totals = totalsOf totals; at = at }) in
+        let whole : readNets B job 0 (job .nets) (metalAtFirst job) noTotals 0 ≡ good all = so-far .same ∙ rw no-net refl in
+        rw (← same, same-grid) ((all, whole, refl, refl, so-far .nets .coded), rw (whole, append-nil) (so-far .tallied))
 
     -- the totals of all nets are small
     pub fits-all : NetFits 4112 (NetRead.Ended totals at)

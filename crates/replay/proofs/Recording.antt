@@ -22,12 +22,14 @@ use Rattle.rules.specs.Routings.{Totals, withJoin, withNet}
 use Rattle.rules.specs.declared.price.Tech.{Tech as TechStruct}
 use Rattle.rules.specs.declared.totals.Totals.{Totals as TotalsStruct}
 use Rattle.plan.specs.Reading.{group}
+use Rattle.counts.specs.Structs.{CountsFit}
+use Rattle.counts.proofs.Counting.{fit-under}
 use Rattle.tree.specs.Spots.{someUnjoined}
 use Rattle.walker.specs.Entering.{Arrays}
 use Rattle.walker.specs.Structs.{totalsOf, Bounded, WalkFits}
 use Rattle.walker.specs.declared.Walk.{Walk}
-use Rattle.replay.specs.Following.{Came, came, stopped, andOn, andRead, arraysOf, Joined, joinFrom, Ended, byFlag, netFrom}
-use Rattle.replay.specs.Structs.{flagOf, IsJoin, JoinFits, IsNet, NetFits}
+use Rattle.replay.specs.Following.{Came, came, stopped, andOn, andRead, arraysOf, Joined, joinFrom, Ended, byFlag, withJoinCounts, netFrom}
+use Rattle.replay.specs.Structs.{flagOf, IsJoin, JoinFits, CountedJoin, IsNet, CountedNet, NetFits}
 use Rattle.replay.specs.declared.join.JoinRead.{JoinRead}
 use Rattle.replay.specs.declared.join.JoinRead.the-variants as Join
 use Rattle.replay.specs.declared.net.Flag.{Flag}
@@ -76,31 +78,32 @@ by-join (suc one) none join some = refl
 
 -- ---- the records
 
-module _ (tech : TechStruct) (view : View) (B : List ℕ) (net : ℕ) (pins : List ℕ) (count from : ℕ) (before : Totals) (first : Arrays) where
+module _ (tech : TechStruct) (view : View) (B : List ℕ) (net : ℕ) (pins : List ℕ) (count from : ℕ) (before : Totals) (counts₀ : List ℕ) (first : Arrays) where
   -- what reading the records comes to
   abbrev pub Whole-net : Came Ended
-  Whole-net = netFrom B (techBy tech) view net pins count from before first
+  Whole-net = netFrom B (techBy tech) view net pins count from before counts₀ first
 
-  -- at most so many records are left: the rest from here gives the whole, and the totals are small
-  pub record Recording (spots codes : List ℕ) (totals : TotalsStruct) (at left : ℕ) : Type 0 where
-    pub same : Whole-net ≡ netFrom B (techBy tech) view net pins left at (totalsOf totals) (record { spots = spots; codes = codes })
+  -- at most so many records are left: the rest from here gives the whole, and totals and counts are small
+  pub record Recording (spots codes counts : List ℕ) (totals : TotalsStruct) (at left : ℕ) : Type 0 where
+    pub same : Whole-net ≡ netFrom B (techBy tech) view net pins left at (totalsOf totals) counts (record { spots = spots; codes = codes })
     pub bounded : Bounded (16 * net + (count - left)) totals at
     pub joined : totals .joined ≤ 16 * net
     pub few : left ≤ count
     pub size : length codes ≡ length (first .codes)
+    pub small : CountsFit (2 ^ 22 * at) counts
 
-  -- what the code answers
-  abbrev pub Answers : NetRead → (codes : List ℕ) → Type 0
-  Answers r codes = IsNet r Whole-net × (NetFits (16 * net + 16) r × (codes ≡ arraysOf Whole-net .codes))
+  -- what the code answers and leaves
+  abbrev pub Answers : NetRead → (codes counts : List ℕ) → Type 0
+  Answers r codes counts = IsNet r Whole-net × (NetFits (16 * net + 16) r × ((codes ≡ arraysOf Whole-net .codes) × CountedNet Whole-net counts))
 
   -- before the first record
-  pub recording-begun : (totals : TotalsStruct) → before ≡ totalsOf totals → Bounded (16 * net) totals from
-      → Recording (first .spots) (first .codes) totals from count
-  recording-begun totals is b =
+  pub recording-begun : (totals : TotalsStruct) → before ≡ totalsOf totals → Bounded (16 * net) totals from → CountsFit (2 ^ 22 * from) counts₀
+      → Recording (first .spots) (first .codes) counts₀ totals from count
+  recording-begun totals is b small =
       let none : 16 * net + (count - count) ≡ 16 * net = omega arith in
-      record { same = rw is refl; bounded = rw none b; joined = b .joined; few = omega arith; size = refl }
+      record { same = rw is refl; bounded = rw none b; joined = b .joined; few = omega arith; size = refl; small = small }
 
-  module _ {spots codes : List ℕ} {totals : TotalsStruct} {at left : ℕ} (so-far : Recording spots codes totals at left) where
+  module _ {spots codes counts : List ℕ} {totals : TotalsStruct} {at left : ℕ} (so-far : Recording spots codes counts totals at left) where
     -- the arrays now
     abbrev here : Arrays
     here = record { spots = spots; codes = codes }
@@ -108,33 +111,35 @@ module _ (tech : TechStruct) (view : View) (B : List ℕ) (net : ℕ) (pins : Li
     -- what the rest gives, after a flag and a join
     abbrev after-join : Came Joined → Came Ended
     after-join x =
-        andOn x (λ joined after. netFrom B (techBy tech) view net pins (left - 1) (joined .next) (withJoin (totalsOf totals) (joined .gone .made)) after)
+        andOn x (λ joined after. netFrom B (techBy tech) view net pins (left - 1) (joined .next) (withJoin (totalsOf totals) (joined .gone .made))
+        (withJoinCounts B (techBy tech) view (at + 1) (joined .gone .made) counts) after)
 
     abbrev after-flag : Read Unit → Came Ended
     after-flag x =
-        andRead here x (λ whole. byFlag (field B at 1) (came (record { totals = totalsOf totals; next = at + 1 }) here)
+        andRead here x (λ whole. byFlag (field B at 1) (came (record { totals = totalsOf totals; counts = counts; next = at + 1 }) here)
         (after-join (joinFrom B (techBy tech) view net (at + 1) here)))
 
     -- the whole is this record, and the rest
     one-more : 0 < left → Whole-net
-        ≡ cond (someUnjoined spots pins) (after-flag (group B at 1)) (came (record { totals = withNet (totalsOf totals); next = at }) here)
+        ≡ cond (someUnjoined spots pins) (after-flag (group B at 1)) (came (record { totals = withNet (totalsOf totals); counts = counts; next = at }) here)
     unfolding netFrom
     one-more some = so-far .same ∙ by left some
       where
-        by : (n : ℕ) → 0 < n → netFrom B (techBy tech) view net pins n at (totalsOf totals) here
+        by : (n : ℕ) → 0 < n → netFrom B (techBy tech) view net pins n at (totalsOf totals) counts here
             ≡ cond (someUnjoined spots pins) (andRead here (group B at 1) (λ whole. byFlag (field B at 1)
-            (came (record { totals = totalsOf totals; next = at + 1 }) here)
+            (came (record { totals = totalsOf totals; counts = counts; next = at + 1 }) here)
             (andOn (joinFrom B (techBy tech) view net (at + 1) here) (λ joined after.
-            netFrom B (techBy tech) view net pins (n - 1) (joined .next) (withJoin (totalsOf totals) (joined .gone .made)) after))))
-            (came (record { totals = withNet (totalsOf totals); next = at }) here)
+            netFrom B (techBy tech) view net pins (n - 1) (joined .next) (withJoin (totalsOf totals) (joined .gone .made))
+            (withJoinCounts B (techBy tech) view (at + 1) (joined .gone .made) counts) after))))
+            (came (record { totals = withNet (totalsOf totals); counts = counts; next = at }) here)
         by zero h = absurd (omega (arith, h))
         by (suc n) h = let less : suc n - 1 ≡ n = omega arith in rw less refl
 
     -- every pin is joined, so the net is
-    net-ends : Whole-net ≡ came (record { totals = withNet (totalsOf totals); next = at }) here → count ≤ 16 → {ended : TotalsStruct}
+    net-ends : Whole-net ≡ came (record { totals = withNet (totalsOf totals); counts = counts; next = at }) here → count ≤ 16 → {ended : TotalsStruct}
         → ended ≡ record { cost = totals .cost; added = totals .added; penalties = totals .penalties; joined = totals .joined + 1 }
-        → Answers (NetRead.Ended ended at) codes
-    unfolding IsNet NetFits arraysOf withNet
+        → Answers (NetRead.Ended ended at) codes counts
+    unfolding IsNet NetFits CountedNet arraysOf withNet
     net-ends whole sixteen is =
         let b = so-far .bounded in
         let one : totals .joined + 1 ≡ suc (totals .joined) = omega arith in
@@ -148,36 +153,36 @@ module _ (tech : TechStruct) (view : View) (B : List ℕ) (net : ℕ) (pins : Li
               joined = omega (arith, so-far .joined);
               reach = omega (arith, b .reach, so-far .few);
             },
-            refl,
+            (refl, (refl, so-far .small)),
           ),
         )
 
     pub recording-joined : 0 < left → someUnjoined spots pins ≡ false → count ≤ 16 → {ended : TotalsStruct}
         → ended ≡ record { cost = totals .cost; added = totals .added; penalties = totals .penalties; joined = totals .joined + 1 }
-        → Answers (NetRead.Ended ended at) codes
+        → Answers (NetRead.Ended ended at) codes counts
     recording-joined some none = net-ends (one-more some ∙ rw none refl)
 
     -- no record is left
     pub recording-done : left ≤ 0 → count ≤ 16 → {ended : TotalsStruct}
         → ended ≡ record { cost = totals .cost; added = totals .added; penalties = totals .penalties; joined = totals .joined + 1 }
-        → Answers (NetRead.Ended ended at) codes
+        → Answers (NetRead.Ended ended at) codes counts
     unfolding netFrom
     recording-done none = let no-record : left ≡ 0 = omega arith in net-ends (so-far .same ∙ rw no-record refl)
 
     module _ (some : 0 < left) (unjoined : someUnjoined spots pins ≡ true) {flag : Flag} (flagged : flag ≡ flagOf B at) where
       -- a flag that is cut
-      pub recording-cut : flag ≡ Flags.Cut → Answers (NetRead.Refused 15 at) codes
-      unfolding IsNet NetFits arraysOf andRead rule
+      pub recording-cut : flag ≡ Flags.Cut → Answers (NetRead.Refused 15 at) codes counts
+      unfolding IsNet NetFits CountedNet arraysOf andRead rule
       recording-cut told =
           let whole : Whole-net ≡ stopped 15 at here = one-more some ∙ rw (unjoined, flag-cut B at (sym flagged ∙ told)) refl in
-          rw whole ((refl, refl), (tt, refl))
+          rw whole ((refl, refl), (tt, (refl, tt)))
 
       -- a record that says none
-      pub recording-none : flag ≡ Flags.None → count ≤ 16 → Answers (NetRead.Ended totals (at + 1)) codes
-      unfolding IsNet NetFits arraysOf andRead rule byFlag
+      pub recording-none : flag ≡ Flags.None → count ≤ 16 → Answers (NetRead.Ended totals (at + 1)) codes counts
+      unfolding IsNet NetFits CountedNet arraysOf andRead rule byFlag
       recording-none told sixteen =
           let (w, zero-flag) = flag-none B at (sym flagged ∙ told) in
-          let whole : Whole-net ≡ came (record { totals = totalsOf totals; next = at + 1 }) here = one-more some ∙ rw (unjoined, w, zero-flag) refl in
+          let whole : Whole-net ≡ came (record { totals = totalsOf totals; counts = counts; next = at + 1 }) here = one-more some ∙ rw (unjoined, w, zero-flag) refl in
           let b = so-far .bounded in
           rw whole (
             (refl, refl),
@@ -189,7 +194,7 @@ module _ (tech : TechStruct) (view : View) (B : List ℕ) (net : ℕ) (pins : Li
                 joined = omega (arith, so-far .joined);
                 reach = omega (arith, b .reach, so-far .few, some);
               },
-              refl,
+              (refl, (refl, fit-under _ (so-far .small) (omega arith))),
             ),
           )
 
@@ -204,13 +209,13 @@ module _ (tech : TechStruct) (view : View) (B : List ℕ) (net : ℕ) (pins : Li
         -- a join that is refused
         pub recording-refused : (r : JoinRead) {n p : ℕ} {left-codes : List ℕ} → IsJoin r (joinFrom B (techBy tech) view net (at + 1) here)
             → r ≡ Join.Refused n p → left-codes ≡ arraysOf (joinFrom B (techBy tech) view net (at + 1) here) .codes
-            → Answers (NetRead.Refused n p) left-codes
-        unfolding IsNet NetFits IsJoin arraysOf andOn
-        recording-refused r {n} {p} {left-codes} is refusing laid = by (joinFrom B (techBy tech) view net (at + 1) here) refl (rw refusing at is) laid
+            → (left-counts : List ℕ) → Answers (NetRead.Refused n p) left-codes left-counts
+        unfolding IsNet NetFits CountedNet IsJoin arraysOf andOn
+        recording-refused r {n} {p} {left-codes} is refusing laid left-counts = by (joinFrom B (techBy tech) view net (at + 1) here) refl (rw refusing at is) laid
           where
             by : (x : Came Joined) → joinFrom B (techBy tech) view net (at + 1) here ≡ x → IsJoin (Join.Refused n p) x → left-codes ≡ arraysOf x .codes
-                → Answers (NetRead.Refused n p) left-codes
-            by (stopped m q after) e h k = rw (joined-whole ∙ ap after-join e) (h, (tt, k))
+                → Answers (NetRead.Refused n p) left-codes left-counts
+            by (stopped m q after) e h k = rw (joined-whole ∙ ap after-join e) (h, (tt, (k, tt)))
             by (came joined after) e h k = absurd h
 
         -- a join, and the totals with it
@@ -219,10 +224,11 @@ module _ (tech : TechStruct) (view : View) (B : List ℕ) (net : ℕ) (pins : Li
             → more-spots ≡ arraysOf (joinFrom B (techBy tech) view net (at + 1) here) .spots
             → more-codes ≡ arraysOf (joinFrom B (techBy tech) view net (at + 1) here) .codes
             → more ≡ record { cost = totals .cost + w .cost; added = totals .added + w .added; penalties = totals .penalties + w .penalties; joined = totals .joined }
-            → Recording more-spots more-codes more next (left - 1)
-        unfolding IsJoin JoinFits arraysOf andOn withJoin
-        recording-on fits below r {w} {next} {more-spots} {more-codes} {more} is small joining put laid summed =
-            by (joinFrom B (techBy tech) view net (at + 1) here) refl (rw joining at is) put laid
+            → (more-counts : List ℕ) → CountedJoin B (techBy tech) view (at + 1) (joinFrom B (techBy tech) view net (at + 1) here) counts more-counts
+            → Recording more-spots more-codes more-counts more next (left - 1)
+        unfolding IsJoin JoinFits CountedJoin arraysOf andOn withJoin
+        recording-on fits below r {w} {next} {more-spots} {more-codes} {more} is small joining put laid summed more-counts tallied =
+            by (joinFrom B (techBy tech) view net (at + 1) here) refl (rw joining at is) put laid tallied
           where
             kept : length (arraysOf (joinFrom B (techBy tech) view net (at + 1) here) .codes) ≡ length codes
             kept = join-kept B below view net (fits .good) (at + 1) here .size
@@ -231,9 +237,10 @@ module _ (tech : TechStruct) (view : View) (B : List ℕ) (net : ℕ) (pins : Li
             fit = rw joining at small
 
             by : (x : Came Joined) → joinFrom B (techBy tech) view net (at + 1) here ≡ x → IsJoin (Join.Joined w next) x → more-spots ≡ arraysOf x .spots
-                → more-codes ≡ arraysOf x .codes → Recording more-spots more-codes more next (left - 1)
-            by (stopped m q after) e h k l = absurd h
-            by (came joined after) e (walk, nexts) k l =
+                → more-codes ≡ arraysOf x .codes → CountedJoin B (techBy tech) view (at + 1) x counts more-counts
+                → Recording more-spots more-codes more-counts more next (left - 1)
+            by (stopped m q after) e h k l c = absurd h
+            by (came joined after) e (walk, nexts) k l (sums, few) =
                 let b = so-far .bounded in
                 let total : withJoin (totalsOf totals) (joined .gone .made) ≡ totalsOf more =
                 rw summed (λ i. record {
@@ -246,7 +253,7 @@ module _ (tech : TechStruct) (view : View) (B : List ℕ) (net : ℕ) (pins : Li
                 record {
                   same =
                       joined-whole ∙ ap after-join e
-                      ∙ (λ i. netFrom B (techBy tech) view net pins (left - 1) (sym nexts i) (total i) (arrays i));
+                      ∙ (λ i. netFrom B (techBy tech) view net pins (left - 1) (sym nexts i) (total i) (sym sums i) (arrays i));
                   bounded = rw summed (record {
                     cost = omega (arith, b .cost, fit .0 .cost, so-far .few, some);
                     added = omega (arith, b .added, fit .0 .added, so-far .few, some);
@@ -257,4 +264,5 @@ module _ (tech : TechStruct) (view : View) (B : List ℕ) (net : ℕ) (pins : Li
                   joined = rw summed (so-far .joined);
                   few = omega (arith, so-far .few);
                   size = ap length l ∙ sym (ap (λ (y : Came Joined). length (arraysOf y .codes)) e) ∙ kept ∙ so-far .size;
+                  small = rw nexts few;
                 }

@@ -16,6 +16,7 @@ use Rattle.bits.specs.Bits.{field}
 use Rattle.job.specs.Grid.{vertices}
 use Rattle.job.specs.Structs.{gridOf}
 use Rattle.job.specs.Reading.{Read, refused, good}
+use Rattle.rules.specs.Tracks.{layerOf}
 use Rattle.rules.specs.Views.{View}
 use Rattle.rules.specs.Steps.{Made, legal, step}
 use Rattle.rules.specs.Structs.{TechFits, techBy, placeOf, madeBy, WholeMade}
@@ -23,34 +24,51 @@ use Rattle.rules.specs.declared.price.Tech.{Tech as TechStruct}
 use Rattle.rules.specs.declared.step.Made.{Made as MadeStruct}
 use Rattle.metal.specs.Codes.{layAll, extended}
 use Rattle.metal.proofs.Laid.{laid-length}
+use Rattle.counts.specs.Counts.{counted, moveCounts, walkCounts}
+use Rattle.counts.specs.Structs.{CountsFit}
+use Rattle.counts.proofs.Counting.{fit-under}
+use Rattle.counts.proofs.Turns.{endOf, end-then, counted-then, move-fit}
 use Rattle.walker.specs.Entering.{Arrays, enterBy, Gone, goneAt, goneOn}
 use Rattle.walker.specs.Structs.{walkFrom, walkOn}
 use Rattle.walker.specs.declared.Walk.{Walk}
 use Rattle.walker.proofs.Landing.{MoveFits, made-fits, made-entered, MovesMade, made-none, made-one, made-all}
 use Rattle.replay.specs.Following.{Came, came, stopped, andRead, arraysOf, judgedMove, movesFrom}
-use Rattle.replay.specs.Structs.{judgedOf, WholeJudged, IsJudged, IsMoves, MovesFit}
+use Rattle.replay.specs.Structs.{judgedOf, WholeJudged, IsJudged, IsMoves, MovesFit, CountedMoves}
 use Rattle.replay.specs.declared.judge.Judged.{Judged}
 use Rattle.replay.specs.declared.judge.Judged.the-variants as Judge
 use Rattle.replay.specs.declared.moves.MovesRead.{MovesRead}
 use Rattle.replay.proofs.Parts.{judged-step}
 
-module _ (tech : TechStruct) (view : View) (B : List ℕ) (net count from start : ℕ) (first : Arrays) where
+module _ (tech : TechStruct) (view : View) (B : List ℕ) (net count from start : ℕ) (first : Arrays) (before : List ℕ) where
   -- what reading the moves comes to
   abbrev pub Whole-moves : Came Gone
   Whole-moves = movesFrom B (techBy tech) view net count from (goneAt start) first
 
-  -- so many moves are left: the rest from where the walk has led gives the whole
-  pub record Walking (spots codes : List ℕ) (walk : Walk) (at left : ℕ) : Type 0 where
+  -- so many moves are left: the rest from where the walk has led gives the whole, and those made are counted
+  pub record Walking (spots codes counts : List ℕ) (walk : Walk) (layer at left : ℕ) : Type 0 where
     pub gone : Gone
     pub made : MovesMade tech (count - left) walk gone
     pub same : Whole-moves ≡ movesFrom B (techBy tech) view net left at gone (record { spots = spots; codes = codes })
     pub next : at + 2 * left ≡ from + 2 * count
     pub few : left ≤ count
     pub size : length codes ≡ length (first .codes)
+    pub tallied : counts ≡ counted (walkCounts (gridOf (tech .grid)) view start (gone .made)) before
+    pub ends : endOf start (gone .made) ≡ walk .place .vertex
+    pub level : layer ≡ layerOf (gridOf (tech .grid)) (walk .place .vertex)
+    pub small : CountsFit (2 ^ 22 * at) counts
+
+  -- what the code answers and leaves
+  abbrev pub Answers : MovesRead → (spots codes counts : List ℕ) → Type 0
+  Answers r spots codes counts =
+      IsMoves r Whole-moves
+      × (MovesFit r × ((spots ≡ arraysOf Whole-moves .spots)
+      × ((codes ≡ arraysOf Whole-moves .codes) × CountedMoves (gridOf (tech .grid)) view start Whole-moves (from + 2 * count) before counts)))
 
   -- before the first move
-  pub walking-begun : {walk : Walk} → walk ≡ walkFrom start → start < vertices (gridOf (tech .grid)) → Walking (first .spots) (first .codes) walk from count
-  walking-begun begun on =
+  pub walking-begun : {walk : Walk} {layer : ℕ} → walk ≡ walkFrom start → layer ≡ layerOf (gridOf (tech .grid)) start → start < vertices (gridOf (tech .grid))
+      → CountsFit (2 ^ 22 * from) before → Walking (first .spots) (first .codes) before walk layer from count
+  unfolding goneAt walkFrom counted walkCounts endOf
+  walking-begun begun level on small =
       let none : count - count ≡ 0 = omega arith in
       record {
         gone = goneAt start;
@@ -59,10 +77,14 @@ module _ (tech : TechStruct) (view : View) (B : List ℕ) (net count from start 
         next = refl;
         few = omega arith;
         size = refl;
+        tallied = refl;
+        ends = rw begun refl;
+        level = rw begun level;
+        small = small;
       }
 
   -- with a move left
-  module _ {spots codes : List ℕ} {walk : Walk} {at left : ℕ} (so-far : Walking spots codes walk at left) (some : 0 < left) where
+  module _ {spots codes counts : List ℕ} {walk : Walk} {layer at left : ℕ} (so-far : Walking spots codes counts walk layer at left) (some : 0 < left) where
     -- the move is judged as the definition's
     abbrev pub Judges : Judged → Bool → Type 0
     Judges r last =
@@ -90,13 +112,13 @@ module _ (tech : TechStruct) (view : View) (B : List ℕ) (net count from start 
 
     -- a move that is refused
     pub walking-refused : {r : Judged} {last : Bool} {n p : ℕ} → Judges r last → last ≡ eqb left 1 → r ≡ Judge.Refused n p
-        → IsMoves (MovesRead.Refused n p) Whole-moves × (MovesFit (MovesRead.Refused n p) × ((spots ≡ arraysOf Whole-moves .spots) × (codes ≡ arraysOf Whole-moves .codes)))
-    unfolding judgedOf IsMoves MovesFit arraysOf andRead
+        → Answers (MovesRead.Refused n p) spots codes counts
+    unfolding judgedOf IsMoves MovesFit CountedMoves arraysOf andRead
     walking-refused {n = n} {p = p} judged isLast told =
         let read : judgedMove B (techBy tech) view spots (eqb left 1) at (placeOf (walk .place)) ≡ refused n p =
         sym (rw (told, isLast) at (judged .same)) in
         let whole : Whole-moves ≡ stopped n p (record { spots = spots; codes = codes }) = one-more ∙ ap Rest read in
-        rw whole ((refl, refl), (tt, (refl, refl)))
+        rw whole ((refl, refl), (tt, (refl, (refl, tt))))
 
     module _ (last : Bool) {r : Judged} (m : MadeStruct) (judged : Judges r last) (told : r ≡ Judge.Good m) where
       -- the definition's move
@@ -124,26 +146,34 @@ module _ (tech : TechStruct) (view : View) (B : List ℕ) (net count from start 
       -- after the move
       pub walking-on : TechFits tech → last ≡ eqb left 1 → {more after : List ℕ} {onward : Walk} → more ≡ set spots (m .next .vertex) 1
           → after ≡ layAll net (extended (gridOf (tech .grid)) (placeOf (walk .place)) (m .extension) ++ (m .next .vertex ∷ [])) codes
-          → onward ≡ walkOn walk m → Walking more after onward (at + 2) (left - 1)
-      unfolding andRead
-      walking-on fits isLast {more} {after} {onward} put laid walked =
+          → onward ≡ walkOn walk m → {tally : List ℕ} {entered : ℕ} → tally ≡ counted (moveCounts (gridOf (tech .grid)) view (walk .place .vertex) made) counts
+          → entered ≡ layerOf (gridOf (tech .grid)) (m .next .vertex) → Walking more after tally onward entered (at + 2) (left - 1)
+      unfolding andRead goneOn walkOn madeBy
+      walking-on fits isLast {more} {after} {onward} put laid walked {tally} {entered} counts-more into =
           let arrays = made-entered tech view (walk .place) (field B at 2) m is-step is-whole net spots codes put laid in
           let one : count - (left - 1) ≡ suc (count - left) = omega (arith, so-far .few, some) in
+          let new = move-fits fits in
           record {
             gone = goneOn (so-far .gone) made;
-            made = rw (walked, one) (made-one tech view m (so-far .made) (move-fits fits));
+            made = rw (walked, one) (made-one tech view m (so-far .made) new);
             same =
                 one-more ∙ ap Rest (rw isLast at is-good) ∙ ap (movesFrom B (techBy tech) view net (left - 1) (at + 2) (goneOn (so-far .gone) made)) arrays;
             next = omega (arith, so-far .next, some);
             few = omega (arith, so-far .few);
             size = ap length laid ∙ laid-length net _ codes ∙ so-far .size;
+            tallied = counted-then (gridOf (tech .grid)) view start (so-far .gone .made) made before (so-far .tallied) (rw (so-far .ends) counts-more);
+            ends = end-then start (so-far .gone .made) made ∙ sym (ap (λ (w : Walk). w .place .vertex) walked);
+            level = into ∙ sym (ap (λ (w : Walk). layerOf (gridOf (tech .grid)) (w .place .vertex)) walked);
+            small = rw counts-more (fit-under _ (move-fit (gridOf (tech .grid)) view (walk .place .vertex) made counts
+                (omega (arith, new .added)) (omega (arith, new .penalties)) (so-far .small)) (omega arith));
           }
 
   -- after the last move
-  pub walking-done : {spots codes : List ℕ} {walk : Walk} {at left : ℕ} → Walking spots codes walk at left → left ≤ 0 → count < 2 ^ 20
-      → IsMoves (MovesRead.Walked walk) Whole-moves × (MovesFit (MovesRead.Walked walk) × ((spots ≡ arraysOf Whole-moves .spots) × (codes ≡ arraysOf Whole-moves .codes)))
-  unfolding movesFrom IsMoves MovesFit arraysOf
-  walking-done {spots} {codes} {walk} {left = left} so-far none few =
+  pub walking-done : {spots codes counts : List ℕ} {walk : Walk} {layer at left : ℕ} → Walking spots codes counts walk layer at left → left ≤ 0 → count < 2 ^ 20
+      → Answers (MovesRead.Walked walk) spots codes counts
+  unfolding movesFrom IsMoves MovesFit CountedMoves arraysOf
+  walking-done {spots} {codes} {walk = walk} {at = at} {left = left} so-far none few =
       let no-move : left ≡ 0 = omega arith in
       let whole : Whole-moves ≡ came (so-far .gone) (record { spots = spots; codes = codes }) = so-far .same ∙ rw no-move refl in
-      rw whole (so-far .made .is, (made-all (so-far .made) (omega (arith, few)), (refl, refl)))
+      let end : 2 ^ 22 * at ≤ 2 ^ 22 * (from + 2 * count) = omega (arith, so-far .next, none) in
+      rw whole (so-far .made .is, (made-all (so-far .made) (omega (arith, few)), (refl, (refl, (so-far .tallied, fit-under _ (so-far .small) end)))))

@@ -1,13 +1,15 @@
 -- A whole plan.
 --     end-refused, end-tail, end-good      the tail after the last net
 --     plan-coded                           the codes of a good plan are those of its metal
---     plan-answer, plan-map                the answer and the map of a plan
-use Prim.Native.Nat.{ℕ}
+--     plan-answer, plan-map, plan-counted     the answer, the map and the counts of a plan
+use Prim.Native.Nat.{ℕ, _-_}
 use mathlib.Core.Path.{_≡_, refl, sym, ap, subst, _∙_}
 use mathlib.Core.List.{List}
-use mathlib.Core.Bool.{true, false}
+use mathlib.Core.Bool.{Bool, true, false, _&&_}
 use native.Mathlib.Omega.{arith}
-use Rattle.bits.specs.Bits.{bitsOf}
+use lib.ListN.{length, drop}
+use lib.Dec.{ltb, eqb}
+use Rattle.bits.specs.Bits.{bitsOf, number}
 use Rattle.job.specs.Grid.{Grid, vertices}
 use Rattle.job.specs.Job.{Job}
 use Rattle.job.specs.Reading.{Read, refused, good, _>>=_, _>>_, rule, readJob}
@@ -23,7 +25,7 @@ use Rattle.job.specs.Slices.{zeroed}
 use Rattle.metal.proofs.Slices.{beyond-trans, zeroed-kept}
 use Rattle.walker.specs.Structs.{PlanHeld}
 use Rattle.walker.proofs.Wholes.{laid-kept, read-grid, finished-map}
-use Rattle.replay.specs.Structs.{IsNets, IsReplayed, planFrom, IsEnd, finishedMap}
+use Rattle.replay.specs.Structs.{IsNets, CountedNets, IsReplayed, CountedPlan, planFrom, IsEnd, finishedMap}
 use Rattle.plan.specs.Leaving.{replayedMap}
 use Rattle.replay.specs.declared.net.NetRead.{NetRead}
 use Rattle.replay.specs.declared.whole.Replayed.{Replayed}
@@ -82,6 +84,22 @@ unfolding IsNets
 plan-coded g bits (NetRead.Refused n p) x codes r is e = absurd (plan-none bits n p r (sym (ap (planFrom bits) is) ∙ e))
 plan-coded g bits (NetRead.Ended totals at) x codes r (all, e, total, next, coded) h =
     subst (λ (metal : List (List ℕ)). Codes g metal codes) (plan-metal bits all r (sym (ap (planFrom bits) e) ∙ h)) coded
+
+-- the counts of all nets are those of the plan
+plan-sums : (j : Job) (bits : List ℕ) (x : Read Progress) (before after : List ℕ) → CountedNets j x before after → CountedPlan j (planFrom bits x) before after
+unfolding CountedNets CountedPlan planFrom _>>=_ _>>_ rule
+plan-sums j bits (refused n p) before after h = tt
+plan-sums j bits (good all) before after h = by (ltb (length bits - all .at) 8 && eqb (number (drop (all .at) bits)) 0)
+  where
+    by : (b : Bool) → CountedPlan j (_>>_ (rule 15 (all .at) b) (good (record { entries = all .entries; metal = all .metal; totals = all .totals }))) before after
+    by true = h
+    by false = tt
+
+-- and so for a plan that is read
+pub plan-counted : (j : Job) (plan before after : List ℕ) → CountedNets j (readNets (bitsOf plan) j 0 (j .nets) (metalAtFirst j) noTotals 0) before after
+    → CountedPlan j (readPlan j plan) before after
+unfolding readPlan planFrom
+plan-counted j plan before after h = plan-sums j (bitsOf plan) _ before after h
 
 -- ---- from the job that was read to the map at the end
 

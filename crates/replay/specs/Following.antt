@@ -20,6 +20,7 @@ use Rattle.rules.specs.Prices.{Tech}
 use Rattle.rules.specs.Steps.{Made, Stepped, illegal, legal, step}
 use Rattle.rules.specs.Routings.{Totals, withJoin, withNet}
 use Rattle.plan.specs.Reading.{group}
+use Rattle.counts.specs.Counts.{counted, walkCounts}
 use Rattle.tree.specs.Spots.{someUnjoined}
 use Rattle.walker.specs.Entering.{Arrays, enterBy, Gone, goneAt, goneOn}
 
@@ -97,21 +98,27 @@ joinFrom bits t view net at arrays =
 
 -- ---- the records of a net
 
--- the totals after it, and the next bit
+-- the totals and the counts after it, and the next bit
 pub record Ended : Type 0 where
   pub totals : Totals
+  pub counts : List ℕ
   pub next : ℕ
 
 unfoldable pub byFlag : (flag : ℕ) → Came Ended → Came Ended → Came Ended
 byFlag zero none join = none
 byFlag (suc one) none join = join
 
-unfoldable pub netFrom : (bits : List ℕ) → Tech → View → (net : ℕ) → (pins : List ℕ) → (n at : ℕ) → Totals → Arrays → Came Ended
-netFrom bits t view net pins zero at totals arrays = came (record { totals = withNet totals; next = at }) arrays
-netFrom bits t view net pins (suc n) at totals arrays =
+-- the counts with those of a join that starts at a bit
+unfoldable pub withJoinCounts : (bits : List ℕ) → Tech → View → (at : ℕ) → List Made → (counts : List ℕ) → List ℕ
+withJoinCounts bits t view at made = counted (walkCounts (t .grid) view (vertexNumber (t .grid) (vertexAt bits at)) made)
+
+unfoldable pub netFrom : (bits : List ℕ) → Tech → View → (net : ℕ) → (pins : List ℕ) → (n at : ℕ) → Totals → (counts : List ℕ) → Arrays → Came Ended
+netFrom bits t view net pins zero at totals counts arrays = came (record { totals = withNet totals; counts = counts; next = at }) arrays
+netFrom bits t view net pins (suc n) at totals counts arrays =
     cond (someUnjoined (arrays .spots) pins)
     (andRead arrays (group bits at 1) (λ whole.
-    byFlag (field bits at 1) (came (record { totals = totals; next = at + 1 }) arrays)
+    byFlag (field bits at 1) (came (record { totals = totals; counts = counts; next = at + 1 }) arrays)
     (andOn (joinFrom bits t view net (at + 1) arrays) (λ joined after.
-    netFrom bits t view net pins n (joined .next) (withJoin totals (joined .gone .made)) after))))
-    (came (record { totals = withNet totals; next = at }) arrays)
+    netFrom bits t view net pins n (joined .next) (withJoin totals (joined .gone .made))
+    (withJoinCounts bits t view (at + 1) (joined .gone .made) counts) after))))
+    (came (record { totals = withNet totals; counts = counts; next = at }) arrays)

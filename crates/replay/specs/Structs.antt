@@ -1,5 +1,5 @@
 -- The forms in which the code answers, each made from what Following says.
-use Prim.Native.Nat.{ℕ, _-_, _≤_}
+use Prim.Native.Nat.{ℕ, _-_, _*_, _^_, _≤_}
 use mathlib.Core.Path.{_≡_}
 use mathlib.Core.List.{List}
 use mathlib.Core.Bool.{_&&_, cond}
@@ -7,12 +7,14 @@ use lib.Dec.{ltb, eqb}
 use Rattle.bits.specs.Bits.{field, whole, number}
 use lib.ListN.{length, drop}
 use Rattle.job.specs.Grid.{Grid}
+use Rattle.job.specs.Job.{Job}
 use Rattle.job.specs.Reading.{Read, refused, good, _>>=_, _>>_, rule}
 use Rattle.plan.specs.Reading.{Progress}
 use Rattle.metal.specs.Codes.{Codes, withObstacles}
 use Rattle.job.specs.Slices.{zeroed}
 use Rattle.rules.specs.Views.{View}
 use Rattle.rules.specs.Segments.{Place}
+use Rattle.rules.specs.Prices.{Tech}
 use Rattle.rules.specs.Places.{GoodPlace}
 use Rattle.rules.specs.Steps.{Made}
 use Rattle.rules.specs.Structs.{WholeMade, TechFits, techBy, placeOf, madeBy}
@@ -21,7 +23,9 @@ use Rattle.rules.specs.declared.step.Place.{Place as PlaceStruct}
 use Rattle.occupants.specs.declared.reached.Reached.{Reached}
 use Rattle.walker.specs.Structs.{IsWalk, WalkFits, totalsOf, Bounded}
 use Rattle.walker.specs.Entering.{Gone}
-use Rattle.replay.specs.Following.{Came, came, stopped, Start, Joined, Ended}
+use Rattle.counts.specs.Counts.{counted, walkCounts, planCounts}
+use Rattle.counts.specs.Structs.{CountsFit}
+use Rattle.replay.specs.Following.{Came, came, stopped, Start, Joined, Ended, withJoinCounts}
 use Rattle.replay.specs.declared.moves.MovesRead.{MovesRead}
 use Rattle.rules.specs.Routings.{Routed}
 use Rattle.replay.specs.declared.net.Flag.{Flag}
@@ -76,6 +80,13 @@ unfoldable pub MovesFit : MovesRead → Type 0
 MovesFit (MovesRead.Refused n p) = Unit
 MovesFit (MovesRead.Walked w) = WalkFits w
 
+-- the counts with those of the moves, each at most 2^22 for each bit of the plan that was read: a move has two,
+-- and five counts below 2^20
+unfoldable pub CountedMoves : Grid → View → (start : ℕ) → Came Gone → (at : ℕ) → (before after : List ℕ) → Type 0
+CountedMoves g view start (stopped n p arrays) at before after = Unit
+CountedMoves g view start (came gone arrays) at before after =
+    (after ≡ counted (walkCounts g view start (gone .made)) before) × CountsFit (2 ^ 22 * at) after
+
 -- ---- a join
 
 -- refused alike, or the walk and the next bit
@@ -84,6 +95,12 @@ IsJoin (Join.Refused n p) (stopped m q arrays) = (n ≡ m) × (p ≡ q)
 IsJoin (Join.Refused n p) (came joined arrays) = ⊥
 IsJoin (Join.Joined w next) (stopped m q arrays) = ⊥
 IsJoin (Join.Joined w next) (came joined arrays) = IsWalk w (joined .gone) × (next ≡ joined .next)
+
+-- the counts with those of its moves
+unfoldable pub CountedJoin : (bits : List ℕ) → Tech → View → (at : ℕ) → Came Joined → (before after : List ℕ) → Type 0
+CountedJoin bits t view at (stopped n p arrays) before after = Unit
+CountedJoin bits t view at (came joined arrays) before after =
+    (after ≡ withJoinCounts bits t view at (joined .gone .made) before) × CountsFit (2 ^ 22 * joined .next) after
 
 -- the walk's numbers are small, and the next bit is not far
 unfoldable pub JoinFits : (most : ℕ) → JoinRead → Type 0
@@ -103,6 +120,11 @@ IsNet (NetRead.Refused n p) (came ended arrays) = ⊥
 IsNet (NetRead.Ended totals next) (stopped m q arrays) = ⊥
 IsNet (NetRead.Ended totals next) (came ended arrays) = (totalsOf totals ≡ ended .totals) × (next ≡ ended .next)
 
+-- the counts after them
+unfoldable pub CountedNet : Came Ended → (after : List ℕ) → Type 0
+CountedNet (stopped n p arrays) after = Unit
+CountedNet (came ended arrays) after = (after ≡ ended .counts) × CountsFit (2 ^ 22 * ended .next) after
+
 unfoldable pub NetFits : (n : ℕ) → NetRead → Type 0
 NetFits n (NetRead.Refused m p) = Unit
 NetFits n (NetRead.Ended totals next) = Bounded n totals next
@@ -115,12 +137,22 @@ IsNets g (NetRead.Refused n p) x codes = x ≡ refused n p
 IsNets g (NetRead.Ended totals next) x codes =
     (all : Progress) × (x ≡ good all) × (totalsOf totals ≡ all .totals) × (next ≡ all .at) × Codes g (all .metal) codes
 
+-- the counts with those of the entries
+unfoldable pub CountedNets : Job → Read Progress → (before after : List ℕ) → Type 0
+CountedNets j (refused n p) before after = Unit
+CountedNets j (good all) before after = after ≡ counted (planCounts j (all .entries)) before
+
 -- ---- a whole plan
 
 -- refused alike, or the totals
 unfoldable pub IsReplayed : Replayed → Read Routed → Type 0
 IsReplayed (Replayed.Refused n p) x = x ≡ refused n p
 IsReplayed (Replayed.Good totals) x = (r : Routed) × (x ≡ good r) × (totalsOf totals ≡ r .totals)
+
+-- the counts with those of the plan
+unfoldable pub CountedPlan : Job → Read Routed → (before after : List ℕ) → Type 0
+CountedPlan j (refused n p) before after = Unit
+CountedPlan j (good r) before after = after ≡ counted (planCounts j (r .entries)) before
 
 -- the tail, after all nets were read
 unfoldable pub planFrom : (bits : List ℕ) → Read Progress → Read Routed

@@ -1,15 +1,16 @@
 // Reading a join, after its flag.
 ghost use mathlib.Core.Path.{_≡_};
-ghost use Prim.Native.Nat.{_<_, _≤_, _^_, _+_};
+ghost use Prim.Native.Nat.{_<_, _≤_, _^_, _+_, _*_};
 ghost use lib.ListN.{length};
 ghost use Rattle.bits.specs.Bits.{bitsOf};
 ghost use Rattle.job.specs.Grid.{vertices};
 ghost use Rattle.job.specs.Structs.{gridOf};
 ghost use Rattle.rules.specs.PriceLists.{Priced};
 ghost use Rattle.rules.specs.Structs.{TechFits, techBy, seenBy};
+ghost use Rattle.counts.specs.Structs.{CountsFit};
 ghost use Rattle.walker.specs.Entering.{Gone};
 ghost use Rattle.replay.specs.Following.{Came, arraysOf, costFrom, joinFrom};
-ghost use Rattle.replay.specs.Structs.{IsMoves, MovesFit, IsJoin, JoinFits};
+ghost use Rattle.replay.specs.Structs.{IsMoves, MovesFit, IsJoin, JoinFits, CountedJoin};
 use crate::moves::MovesRead;
 use crate::moves::read_moves;
 use crate::start::StartRead;
@@ -49,11 +50,13 @@ pub fn read_join(
     seen: &[u8; 16384],
     spots: &mut [u8; 16384],
     map: &mut [u16],
+    counts: &mut [usize; 48],
     plan: &[u8],
     net: u16,
     at: usize,
 ) -> JoinRead
-    requires { ⌜ (TechFits tech) × (Priced (techBy tech) (now prices)) × (vertices (gridOf (tech .grid)) ≤ length (now map)) × (at < 2 ^ 37) ⌝ }
+    requires { ⌜ (TechFits tech) × (Priced (techBy tech) (now prices)) × (vertices (gridOf (tech .grid)) ≤ length (now map)) × (at < 2 ^ 37)
+        × (CountsFit (2 ^ 22 * at) (now counts)) ⌝ }
     ensures answer { λ r. ⌜ IsJoin r (joinFrom (bitsOf (now (plan .entry))) (techBy tech) (seenBy tech (now (seen .entry))) net at
         (record { spots = now (spots .entry); codes = now (map .entry) })) ⌝ }
     ensures fits { λ r. ⌜ JoinFits (at + 2 ^ 22) r ⌝ }
@@ -61,6 +64,9 @@ pub fn read_join(
         (seenBy tech (now (seen .entry))) net at (record { spots = now (spots .entry); codes = now (map .entry) })) .spots ⌝ }
     ensures map { λ _. ⌜ now (map .exit) ≡ arraysOf (joinFrom (bitsOf (now (plan .entry))) (techBy tech)
         (seenBy tech (now (seen .entry))) net at (record { spots = now (spots .entry); codes = now (map .entry) })) .codes ⌝ }
+    ensures counts { λ _. ⌜ CountedJoin (bitsOf (now (plan .entry))) (techBy tech) (seenBy tech (now (seen .entry))) at
+        (joinFrom (bitsOf (now (plan .entry))) (techBy tech) (seenBy tech (now (seen .entry))) net at
+        (record { spots = now (spots .entry); codes = now (map .entry) })) (now (counts .entry)) (now (counts .exit)) ⌝ }
 {
     let start = read_start(plan, tech.grid, spots, at);
     match start {
@@ -72,6 +78,7 @@ pub fn read_join(
                 seen,
                 spots,
                 map,
+                counts,
                 plan,
                 net,
                 moves,

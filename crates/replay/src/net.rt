@@ -7,10 +7,11 @@ ghost use Rattle.job.specs.Grid.{vertices};
 ghost use Rattle.job.specs.Structs.{gridOf};
 ghost use Rattle.rules.specs.PriceLists.{Priced};
 ghost use Rattle.rules.specs.Structs.{TechFits, techBy, seenBy};
+ghost use Rattle.counts.specs.Structs.{CountsFit};
 ghost use Rattle.tree.specs.Spots.{Pins};
 ghost use Rattle.walker.specs.Structs.{totalsOf, Bounded};
 ghost use Rattle.replay.specs.Following.{arraysOf, netFrom};
-ghost use Rattle.replay.specs.Structs.{flagOf, IsNet, NetFits};
+ghost use Rattle.replay.specs.Structs.{flagOf, IsNet, CountedNet, NetFits};
 use crate::join::JoinRead;
 use crate::join::read_join;
 use bits::Cursor;
@@ -55,6 +56,7 @@ pub fn read_records(
     seen: &[u8; 16384],
     spots: &mut [u8; 16384],
     map: &mut [u16],
+    counts: &mut [usize; 48],
     plan: &[u8],
     hand: NetAtHand,
     pins: &[usize; 16],
@@ -62,13 +64,18 @@ pub fn read_records(
     before: Totals,
 ) -> NetRead
     requires { ⌜ (TechFits tech) × (Priced (techBy tech) (now prices)) × (vertices (gridOf (tech .grid)) ≤ length (now map))
-        × (Pins (now pins) (hand .pins)) × (hand .number < 256) × (Bounded (16 * hand .number) before from) ⌝ }
+        × (Pins (now pins) (hand .pins)) × (hand .number < 256) × (Bounded (16 * hand .number) before from)
+        × (CountsFit (2 ^ 22 * from) (now counts)) ⌝ }
     ensures answer { λ r. ⌜ IsNet r (netFrom (bitsOf (now (plan .entry))) (techBy tech) (seenBy tech (now (seen .entry))) (hand .number)
-        (take (hand .pins) (now (pins .entry))) (hand .pins) from (totalsOf before) (record { spots = now (spots .entry); codes = now (map .entry) })) ⌝ }
+        (take (hand .pins) (now (pins .entry))) (hand .pins) from (totalsOf before) (now (counts .entry))
+        (record { spots = now (spots .entry); codes = now (map .entry) })) ⌝ }
     ensures fits { λ r. ⌜ NetFits (16 * hand .number + 16) r ⌝ }
     ensures map { λ _. ⌜ now (map .exit) ≡ arraysOf (netFrom (bitsOf (now (plan .entry))) (techBy tech)
-        (seenBy tech (now (seen .entry))) (hand .number) (take (hand .pins) (now (pins .entry))) (hand .pins) from (totalsOf before)
+        (seenBy tech (now (seen .entry))) (hand .number) (take (hand .pins) (now (pins .entry))) (hand .pins) from (totalsOf before) (now (counts .entry))
         (record { spots = now (spots .entry); codes = now (map .entry) })) .codes ⌝ }
+    ensures counts { λ _. ⌜ CountedNet (netFrom (bitsOf (now (plan .entry))) (techBy tech)
+        (seenBy tech (now (seen .entry))) (hand .number) (take (hand .pins) (now (pins .entry))) (hand .pins) from (totalsOf before) (now (counts .entry))
+        (record { spots = now (spots .entry); codes = now (map .entry) })) (now (counts .exit)) ⌝ }
 {
     let mut totals = before;
     let mut at = from;
@@ -87,7 +94,17 @@ pub fn read_records(
             }
             Flag::Join => {}
         }
-        let joined = read_join(tech, prices, seen, spots, map, plan, hand.number, at + 1);
+        let joined = read_join(
+            tech,
+            prices,
+            seen,
+            spots,
+            map,
+            counts,
+            plan,
+            hand.number,
+            at + 1,
+        );
         match joined {
             JoinRead::Refused(refusal, place) => {
                 return NetRead::Refused(refusal, place);

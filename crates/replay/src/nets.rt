@@ -1,6 +1,6 @@
 // Reading a plan net by net.
 ghost use mathlib.Core.Path.{_≡_};
-ghost use Prim.Native.Nat.{_<_, _≤_, _+_, _*_};
+ghost use Prim.Native.Nat.{_<_, _≤_, _+_, _*_, _^_};
 ghost use lib.ListN.{length, take, replicate};
 ghost use Rattle.bits.specs.Bits.{bitsOf};
 ghost use Rattle.job.specs.Grid.{vertices};
@@ -12,11 +12,12 @@ ghost use Rattle.rules.specs.Routings.{noTotals};
 ghost use Rattle.rules.specs.PriceLists.{Priced};
 ghost use Rattle.rules.specs.Structs.{TechFits, techBy, seenBy};
 ghost use Rattle.plan.specs.Reading.{readNets};
+ghost use Rattle.counts.specs.Structs.{CountsFit};
 ghost use Rattle.metal.specs.Codes.{Beyond};
 ghost use Rattle.tree.specs.Spots.{Pins, begunSpots};
 ghost use Rattle.walker.specs.Structs.{totalsOf, Bounded, NetsHeld};
 ghost use Rattle.replay.specs.Following.{arraysOf, netFrom};
-ghost use Rattle.replay.specs.Structs.{IsNet, NetFits, IsNets};
+ghost use Rattle.replay.specs.Structs.{IsNet, CountedNet, NetFits, IsNets, CountedNets};
 use crate::net::NetRead;
 use crate::net::read_records;
 use reader::load::load_net;
@@ -34,6 +35,7 @@ pub fn read_net(
     prices: &[usize; 48],
     seen: &[u8; 16384],
     map: &mut [u16],
+    counts: &mut [usize; 48],
     plan: &[u8],
     hand: NetAtHand,
     pins: &[usize; 16],
@@ -41,14 +43,18 @@ pub fn read_net(
     before: Totals,
 ) -> NetRead
     requires { ⌜ (TechFits tech) × (Priced (techBy tech) (now prices)) × (vertices (gridOf (tech .grid)) ≤ length (now map))
-        × (Pins (now pins) (hand .pins)) × (hand .number < 256) × (Bounded (16 * hand .number) before from) ⌝ }
+        × (Pins (now pins) (hand .pins)) × (hand .number < 256) × (Bounded (16 * hand .number) before from)
+        × (CountsFit (2 ^ 22 * from) (now counts)) ⌝ }
     ensures answer { λ r. ⌜ IsNet r (netFrom (bitsOf (now (plan .entry))) (techBy tech) (seenBy tech (now (seen .entry))) (hand .number)
-        (take (hand .pins) (now (pins .entry))) (hand .pins) from (totalsOf before)
+        (take (hand .pins) (now (pins .entry))) (hand .pins) from (totalsOf before) (now (counts .entry))
         (record { spots = begunSpots (take (hand .pins) (now (pins .entry))) (replicate 16384 0); codes = now (map .entry) })) ⌝ }
     ensures fits { λ r. ⌜ NetFits (16 * hand .number + 16) r ⌝ }
     ensures map { λ _. ⌜ now (map .exit) ≡ arraysOf (netFrom (bitsOf (now (plan .entry))) (techBy tech)
-        (seenBy tech (now (seen .entry))) (hand .number) (take (hand .pins) (now (pins .entry))) (hand .pins) from (totalsOf before)
+        (seenBy tech (now (seen .entry))) (hand .number) (take (hand .pins) (now (pins .entry))) (hand .pins) from (totalsOf before) (now (counts .entry))
         (record { spots = begunSpots (take (hand .pins) (now (pins .entry))) (replicate 16384 0); codes = now (map .entry) })) .codes ⌝ }
+    ensures counts { λ _. ⌜ CountedNet (netFrom (bitsOf (now (plan .entry))) (techBy tech)
+        (seenBy tech (now (seen .entry))) (hand .number) (take (hand .pins) (now (pins .entry))) (hand .pins) from (totalsOf before) (now (counts .entry))
+        (record { spots = begunSpots (take (hand .pins) (now (pins .entry))) (replicate 16384 0); codes = now (map .entry) })) (now (counts .exit)) ⌝ }
 {
     let mut spots = [0u8; 16384];
     begin_tree(&mut spots, pins, hand.pins);
@@ -58,6 +64,7 @@ pub fn read_net(
         seen,
         &mut spots,
         map,
+        counts,
         plan,
         hand,
         pins,
@@ -72,15 +79,18 @@ pub fn read_nets(
     tech: Tech,
     occupants: &[u8; 16384],
     map: &mut [u16],
+    counts: &mut [usize; 48],
     plan: &[u8],
     nets: usize,
     from: usize,
 ) -> NetRead
-    requires { ⌜ NetsHeld (now s) tech (now occupants) (now map) nets from ⌝ }
+    requires { ⌜ (NetsHeld (now s) tech (now occupants) (now map) nets from) × (CountsFit 0 (now counts)) ⌝ }
     ensures answer { λ r. ⌜ ((j : Job) → readJob (now (s .entry)) ≡ good j
         → IsNets (gridOf (tech .grid)) r (readNets (bitsOf (now (plan .entry))) j 0 (j .nets) (metalAtFirst j) noTotals 0) (now (map .exit))) ⌝ }
     ensures fits { λ r. ⌜ NetFits 4112 r ⌝ }
     ensures kept { λ _. ⌜ Beyond (vertices (gridOf (tech .grid))) (now (map .exit)) (now (map .entry)) ⌝ }
+    ensures counts { λ _. ⌜ ((j : Job) → readJob (now (s .entry)) ≡ good j
+        → CountedNets j (readNets (bitsOf (now (plan .entry))) j 0 (j .nets) (metalAtFirst j) noTotals 0) (now (counts .entry)) (now (counts .exit))) ⌝ }
 {
     let mut seen = [0u8; 16384];
     let mut pins: [usize; 16] = [0; 16];
@@ -110,7 +120,18 @@ pub fn read_nets(
             number: net,
             pins: loaded.pins,
         };
-        let read = read_net(tech, &prices, &seen, map, plan, hand, &pins, at, totals);
+        let read = read_net(
+            tech,
+            &prices,
+            &seen,
+            map,
+            counts,
+            plan,
+            hand,
+            &pins,
+            at,
+            totals,
+        );
         match read {
             NetRead::Refused(refusal, bit) => {
                 return NetRead::Refused(refusal, bit);

@@ -6,8 +6,9 @@ ghost use Rattle.bits.specs.Bits.{bitsOf};
 ghost use Rattle.job.specs.Job.{Job};
 ghost use Rattle.job.specs.Reading.{good, readJob};
 ghost use Rattle.plan.specs.Reading.{readPlan};
+ghost use Rattle.counts.specs.Structs.{CountsFit};
 ghost use Rattle.walker.specs.Structs.{PlanHeld};
-ghost use Rattle.replay.specs.Structs.{NetFits, IsEnd, IsReplayed, finishedMap};
+ghost use Rattle.replay.specs.Structs.{NetFits, IsEnd, IsReplayed, CountedPlan, finishedMap};
 ghost use Rattle.plan.specs.Leaving.{replayedMap};
 use crate::net::NetRead;
 use crate::nets::read_nets;
@@ -57,18 +58,21 @@ pub fn replay_plan(
     tech: Tech,
     occupants: &[u8; 16384],
     map: &mut [u16],
+    counts: &mut [usize; 48],
     plan: &[u8],
     nets: usize,
     from: usize,
 ) -> Replayed
-    requires { ⌜ PlanHeld (now s) tech (now occupants) (now map) nets from ⌝ }
+    requires { ⌜ (PlanHeld (now s) tech (now occupants) (now map) nets from) × (CountsFit 0 (now counts)) ⌝ }
     ensures answer { λ r. ⌜ ((j : Job) → readJob (now (s .entry)) ≡ good j → IsReplayed r (readPlan j (now (plan .entry)))) ⌝ }
     ensures map { λ _. ⌜ ((j : Job) → readJob (now (s .entry)) ≡ good j → now (map .exit) ≡ replayedMap j (readPlan j (now (plan .entry))) (now (map .entry))) ⌝ }
+    ensures counts { λ _. ⌜ ((j : Job) → readJob (now (s .entry)) ≡ good j
+        → CountedPlan j (readPlan j (now (plan .entry))) (now (counts .entry)) (now (counts .exit))) ⌝ }
 {
     let count = tech.grid.vertices();
     zero_codes(map, count);
     lay_all_pins(s, tech.grid, nets, from, map);
-    let read = read_nets(s, tech, occupants, map, plan, nets, from);
+    let read = read_nets(s, tech, occupants, map, counts, plan, nets, from);
     let replayed = end_plan(plan, read);
     finish_map(map, occupants, count, replayed);
     replayed

@@ -2,7 +2,8 @@
 --     heldOf, JobHeld       a job's layers, needs and counts
 --     roomAnswer            whether its slices are long enough
 --     IsResult              the result of a plan's answer
---     replayLeaves, routingLeaves     an outcome, from a result and the slices at exit
+--     CountsHeld            the counts of the plan, where the job was read
+--     replayLeaves, reportLeaves, routingLeaves     an outcome, from a result and the slices at exit
 use Prim.Native.Nat.{ℕ, _+_, _*_}
 use mathlib.Core.Path.{_≡_}
 use mathlib.Core.List.{List}
@@ -20,10 +21,12 @@ use Rattle.occupants.specs.Occupants.{Occupants}
 use Rattle.rules.specs.Prices.{techOf}
 use Rattle.rules.specs.Routings.{Routed}
 use Rattle.rules.specs.Structs.{techBy, TechFits}
-use Rattle.replay.specs.Structs.{IsReplayed}
+use Rattle.plan.specs.Reading.{readPlan}
+use Rattle.replay.specs.Structs.{IsReplayed, CountedPlan}
 use Rattle.replay.specs.declared.whole.Replayed.{Replayed}
-use Rattle.router.specs.Room.{workNeed}
+use Rattle.router.specs.Room.{workNeed, readWithRoom}
 use Rattle.router.specs.Replay.{ReplayOutcome, replayResult}
+use Rattle.router.specs.Report.{ReportOutcome}
 use Rattle.router.specs.Routing.{RoutingOutcome}
 use Rattle.router.specs.declared.held.Held.{Held}
 use Rattle.router.specs.declared.held.Room.{Room}
@@ -69,9 +72,16 @@ roomAnswer (good u) = Enough
 abbrev pub IsResult : Replayed → ReplayResult → Type 0
 IsResult replayed r = (x : Read Routed) → IsReplayed replayed x → r ≡ replayResult x
 
+-- the counts of the plan, where the job was read
+abbrev pub CountsHeld : (bytes plan map work before after : List ℕ) → Type 0
+CountsHeld bytes plan map work before after = (j : Job) → readWithRoom bytes map work ≡ good j → CountedPlan j (readPlan j plan) before after
+
 -- an outcome, from a result and the slices at exit
 abbrev pub replayLeaves : ReplayResult → (map work : List ℕ) → ReplayOutcome
 replayLeaves r map work = record { result = r; map = map; work = work }
+
+abbrev pub reportLeaves : ReplayResult → (map work report : List ℕ) → ReportOutcome
+reportLeaves r map work report = record { result = r; map = map; work = work; report = report }
 
 abbrev pub routingLeaves : RoutingResult → (map work plan : List ℕ) → RoutingOutcome
 routingLeaves r map work plan = record { result = r; map = map; work = work; plan = plan }

@@ -2,7 +2,8 @@
 ghost use mathlib.Core.Path.{_≡_};
 ghost use mathlib.Core.Logic.{_↔_};
 ghost use Rattle.router.specs.Replay.{refusedReplay, replayOf, Accepts};
-ghost use Rattle.router.specs.Held.{replayLeaves, JobHeld, IsResult};
+ghost use Rattle.counts.specs.Structs.{CountsFit};
+ghost use Rattle.router.specs.Held.{replayLeaves, JobHeld, CountsHeld, IsResult};
 use crate::held::Held;
 use crate::held::Room;
 use crate::held::held_of;
@@ -24,7 +25,7 @@ pub struct ReplayResult {
     pub joined: usize,
 }
 
-fn refused_replay(refusal: usize, place: usize) -> ReplayResult
+pub(crate) fn refused_replay(refusal: usize, place: usize) -> ReplayResult
     ensures { λ r. ⌜ r ≡ refusedReplay refusal place ⌝ }
 {
     ReplayResult {
@@ -59,12 +60,14 @@ fn replay_job(
     plan: &[u8],
     map: &mut [u16],
     work: &mut [u64],
+    counts: &mut [usize; 48],
     occupants: &[u8; 16384],
     held: Held,
 ) -> ReplayResult
-    requires { ⌜ JobHeld (now bytes) (now occupants) held ⌝ }
-    ensures { λ r. ⌜ replayLeaves r (now (map .exit)) (now (work .exit))
+    requires { ⌜ (JobHeld (now bytes) (now occupants) held) × (CountsFit 0 (now counts)) ⌝ }
+    ensures outcome { λ r. ⌜ replayLeaves r (now (map .exit)) (now (work .exit))
         ≡ replayOf (now (bytes .entry)) (now (plan .entry)) (now (map .entry)) (now (work .entry)) ⌝ }
+    ensures counts { λ _. ⌜ CountsHeld (now (bytes .entry)) (now (plan .entry)) (now (map .entry)) (now (work .entry)) (now (counts .entry)) (now (counts .exit)) ⌝ }
 {
     let room = room_for(held.vertices, held.work, map, work);
     match room {
@@ -72,12 +75,49 @@ fn replay_job(
         Room::Enough => {
             zero_words(work, held.work);
             let tech = held.tech;
-            let replayed = replay_plan(bytes, tech, occupants, map, plan, held.nets, held.from);
+            let replayed = replay_plan(
+                bytes,
+                tech,
+                occupants,
+                map,
+                counts,
+                plan,
+                held.nets,
+                held.from,
+            );
             result_of(replayed)
         }
     }
 }
 
+// The job is read, then the plan, and its moves are counted.
+pub(crate) fn replay_counted(
+    bytes: &[u8],
+    plan: &[u8],
+    map: &mut [u16],
+    work: &mut [u64],
+    counts: &mut [usize; 48],
+) -> ReplayResult
+    requires { ⌜ CountsFit 0 (now counts) ⌝ }
+    ensures outcome { λ r. ⌜ replayLeaves r (now (map .exit)) (now (work .exit))
+        ≡ replayOf (now (bytes .entry)) (now (plan .entry)) (now (map .entry)) (now (work .entry)) ⌝ }
+    ensures counts { λ _. ⌜ CountsHeld (now (bytes .entry)) (now (plan .entry)) (now (map .entry)) (now (work .entry)) (now (counts .entry)) (now (counts .exit)) ⌝ }
+{
+    let mut occupants = [0u8; 16384];
+    let read = read_job(bytes, &mut occupants);
+    let reached = read.reached;
+    match reached {
+        Reached::Refused(refusal, place) => refused_replay(refusal, place),
+        Reached::At(_end) => {
+            let head = read.head;
+            let layers = read.layers;
+            let held = held_of(head, layers);
+            replay_job(bytes, plan, map, work, counts, &occupants, held)
+        }
+    }
+}
+
+// The counts are the report's: replay drops them.
 #[no_mangle]
 pub extern "C" fn maizespell_replay(
     bytes: &[u8],
@@ -90,16 +130,6 @@ pub extern "C" fn maizespell_replay(
     ensures work { λ _. ⌜ now (work .exit) ≡ replayOf (now (bytes .entry)) (now (plan .entry)) (now (map .entry)) (now (work .entry)) .work ⌝ }
     ensures accepts { λ r. ⌜ (r .refusal ≡ 0) ↔ Accepts (now (bytes .entry)) (now (plan .entry)) (now (map .entry)) (now (work .entry)) ⌝ }
 {
-    let mut occupants = [0u8; 16384];
-    let read = read_job(bytes, &mut occupants);
-    let reached = read.reached;
-    match reached {
-        Reached::Refused(refusal, place) => refused_replay(refusal, place),
-        Reached::At(_end) => {
-            let head = read.head;
-            let layers = read.layers;
-            let held = held_of(head, layers);
-            replay_job(bytes, plan, map, work, &occupants, held)
-        }
-    }
+    let mut counts: [usize; 48] = [0; 48];
+    replay_counted(bytes, plan, map, work, &mut counts)
 }

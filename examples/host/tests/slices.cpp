@@ -3,85 +3,24 @@
 // how many of the plans are within the host's guess; a touch of a guard page ends the process.
 #include <exception>
 #include <iostream>
-#include <stdexcept>
 #include <string>
 #include <utility>
 
-#include "calls.hpp"
 #include "files.hpp"
-#include "guarded.hpp"
-#include "maizespell.h"
+#include "lent.hpp"
+#include "reports.hpp"
 
 namespace {
 
 using host::Bytes;
+using host::Case;
 using host::End;
 using host::Guarded;
-using host::Map;
-using host::Work;
+using host::must;
+using host::must_be_refused;
+using host::Slices;
 
-void must(bool holds, const char *what) {
-    if (!holds) {
-        throw std::runtime_error(what);
-    }
-}
-
-template <class Result> void must_be_refused(const Result &result, std::uint64_t number, std::uint64_t place) {
-    must(result.refusal == number && result.place == place, "another refusal");
-}
-
-// A good job, what it needs, and what it must come to.
-struct Case {
-    Bytes job;
-    host::Needs needs;
-    host::Routed routed;
-};
-
-constexpr std::uint16_t found_map = 0xC35A;
-constexpr std::uint64_t found_work = 0xC35A69E1A5C3961E;
-constexpr std::uint8_t found_plan = 0x6D;
-
-// Slices for one call, each against a guard page, shorter than the need by so much.
-struct Slices {
-    Guarded<std::uint8_t> job;
-    Guarded<std::uint16_t> map;
-    Guarded<std::uint64_t> work;
-    Guarded<std::uint8_t> plan;
-
-    Slices(const Case &of, const Bytes &plan_held, End end, std::size_t map_short = 0, std::size_t work_short = 0)
-        : job(of.job, end), map(Map(of.needs.map - map_short, found_map), end),
-          work(Work(of.needs.work - work_short, found_work), end), plan(plan_held, end) {}
-
-    maizespell_routing_result route() {
-        const auto result = maizespell_routing(job.data(), job.size(), map.data(), map.size(), work.data(),
-                                               work.size(), plan.data(), plan.size());
-        must_keep_to_slices();
-        return result;
-    }
-
-    maizespell_replay_result replay() {
-        const auto result = maizespell_replay(job.data(), job.size(), plan.data(), plan.size(), map.data(),
-                                              map.size(), work.data(), work.size());
-        must_keep_to_slices();
-        return result;
-    }
-
-    void must_keep_to_slices() const {
-        must(job.guard_stands() && map.guard_stands() && work.guard_stands() && plan.guard_stands(), "a guard is gone");
-    }
-
-    void must_be_as_found() const {
-        must(map.content() == Map(map.size(), found_map), "the map is not as found");
-        must(work.content() == Work(work.size(), found_work), "work is not as found");
-    }
-
-    void must_be_zero() const {
-        must(map.content() == Map(map.size()), "the map is not zero");
-        must(work.content() == Work(work.size()), "work is not zero");
-    }
-};
-
-Bytes plan_as_found(std::size_t length) { return Bytes(length, found_plan); }
+Bytes plan_as_found(std::size_t length) { return Bytes(length, host::found_plan); }
 
 void exact_slices(const Case &of, End end) {
     Guarded<std::uint8_t> job(of.job, end);
@@ -91,15 +30,13 @@ void exact_slices(const Case &of, End end) {
     Slices routing(of, plan_as_found(of.routed.plan.size()), end);
     const auto routed = routing.route();
     must(routed.refusal == 0 && routed.bytes == of.routed.plan.size(), "not routed");
-    must(routing.map.content() == of.routed.joined.map, "another map");
-    must(routing.work.content() == Work(of.needs.work), "work is not zero");
+    routing.must_be_joined(of);
     must(routing.plan.content() == of.routed.plan, "another plan");
 
     Slices replaying(of, of.routed.plan, end);
     const auto replayed = replaying.replay();
     must(replayed.refusal == 0 && replayed.cost == of.routed.joined.totals.cost, "not replayed");
-    must(replaying.map.content() == of.routed.joined.map, "another map");
-    must(replaying.work.content() == Work(of.needs.work), "work is not zero");
+    replaying.must_be_joined(of);
 }
 
 void short_slices(const Case &of, End end) {
@@ -179,6 +116,7 @@ bool test_file(const std::string &path) {
         short_slices(of, end);
         null_slices(of, end);
         null_plan(of, end);
+        host::test_reports(of, end);
     }
     return of.routed.plan.size() <= host::plan_guess(job, needs);
 }

@@ -12,8 +12,8 @@ pub trait Difference: fmt::Display {
 /// By number, 0 for success: how often it was answered, and at which places.
 pub struct Tally<D> {
     pub asked: u64,
-    pub hits: [u64; 19],
-    pub places: [HashSet<u64>; 19],
+    pub hits: [u64; 20],
+    pub places: [HashSet<u64>; 20],
     pub differences: u64,
     pub shortest: Option<D>,
 }

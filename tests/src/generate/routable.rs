@@ -41,6 +41,16 @@ pub fn quick_routable_job(random: &mut Random) -> Job {
     }
 }
 
+/// A small job of all layers, which are rarely as many.
+pub fn deep_routable_job(random: &mut Random) -> Job {
+    loop {
+        let job = routable_job(Size::Small, random);
+        if job.layers.len() == MOST_LAYERS as usize {
+            return job;
+        }
+    }
+}
+
 pub fn routable_job(size: Size, random: &mut Random) -> Job {
     let grid = grid(size, random);
     let obstacles = obstacles(&grid, random);

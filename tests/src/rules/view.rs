@@ -46,6 +46,8 @@ impl Cause {
 
 pub struct View<'a> {
     pub(super) board: &'a Board<'a>,
+    outside: Vec<bool>,
+    taken: Vec<bool>,
     /// Guide and short penalty of entering the vertex, or what forbids it.
     penalty: Vec<Result<u32, Cause>>,
     clear_low: Vec<u8>,
@@ -57,11 +59,13 @@ impl<'a> View<'a> {
     pub fn of(board: &'a Board<'a>, net: u16, metal: &Metal) -> Self {
         let extras = Extras::of(board.job);
         let outside = board.outside_guide(net);
+        let taken = |vertex| metal.taken(net, vertex);
+        let taken: Vec<_> = (0..board.vertices()).map(taken).collect();
         let penalty = |vertex| {
             may_enter(board, net, vertex)?;
-            extras.of_entering(outside[vertex], metal.taken(net, vertex))
+            extras.of_entering(outside[vertex], taken[vertex])
         };
-        let clear = |vertex| may_enter(board, net, vertex).is_ok() && !metal.taken(net, vertex);
+        let clear = |vertex| may_enter(board, net, vertex).is_ok() && !taken[vertex];
         let penalty: Vec<_> = (0..board.vertices()).map(penalty).collect();
         let clear: Vec<_> = (0..board.vertices()).map(clear).collect();
         View {
@@ -69,7 +73,19 @@ impl<'a> View<'a> {
             penalty,
             clear_low: clear_beyond(board, &clear, Side::Low),
             clear_high: clear_beyond(board, &clear, Side::High),
+            outside,
+            taken,
         }
+    }
+
+    /// Whether the vertex lies in none of the net's boxes, where it has some.
+    pub fn outside(&self, vertex: usize) -> bool {
+        self.outside[vertex]
+    }
+
+    /// Whether another net's metal covers the vertex.
+    pub fn taken(&self, vertex: usize) -> bool {
+        self.taken[vertex]
     }
 
     /// What entering the vertex costs beside wire or via.

@@ -1,5 +1,5 @@
-//! Jobs and plans that take the calls down all their ways: every refusal, vias with
-//! extensions and penalties, joins and none.
+//! Jobs, plans and reports that take the calls down all their ways: every refusal, vias
+//! with extensions and penalties, joins and none.
 
 use crate::damage::aimed;
 use crate::damage::plan::{LegalPlan, AIMED};
@@ -9,6 +9,7 @@ use crate::largest::largest_job;
 use crate::marked;
 use crate::plan::pack;
 use crate::random::Random;
+use crate::report::COUNTS;
 use crate::router::route;
 use crate::rules::board::Board;
 use crate::wander::wandering_plan;
@@ -23,6 +24,7 @@ pub struct Case {
     pub plan: Vec<u8>,
     pub map: Vec<u16>,
     pub work: Vec<u64>,
+    pub report: Vec<u64>,
 }
 
 pub fn cases() -> Vec<Case> {
@@ -42,7 +44,7 @@ pub fn cases() -> Vec<Case> {
 }
 
 /// A job with its cheapest plan and a wandering one, with damaged plans, damaged,
-/// and with slices that are short.
+/// with slices that are short, and with a report that is full.
 fn add_job(job: &Job, cases: &mut Vec<Case>, random: &mut Random) {
     let board = Board::new(job);
     let wandering = wandering_plan(&board, random).records;
@@ -55,6 +57,7 @@ fn add_job(job: &Job, cases: &mut Vec<Case>, random: &mut Random) {
         plan: pack(&route(&board).records),
         map: vec![0; board.vertices()],
         work: vec![0; board.work_need()],
+        report: vec![0; COUNTS],
     };
     let damaged = AIMED.iter().filter_map(|(_, damage)| damage(legal, random));
     let mut plans: Vec<Vec<u8>> = damaged.map(|aimed| aimed.bytes).collect();
@@ -73,6 +76,11 @@ fn add_job(job: &Job, cases: &mut Vec<Case>, random: &mut Random) {
             });
         }
     }
+    add_slices(&good, cases);
+    cases.push(good);
+}
+
+fn add_slices(good: &Case, cases: &mut Vec<Case>) {
     cases.push(Case {
         map: Vec::new(),
         ..good.clone()
@@ -81,5 +89,10 @@ fn add_job(job: &Job, cases: &mut Vec<Case>, random: &mut Random) {
         work: Vec::new(),
         ..good.clone()
     });
-    cases.push(good);
+    for report in [Vec::new(), vec![u64::MAX; COUNTS]] {
+        cases.push(Case {
+            report,
+            ..good.clone()
+        });
+    }
 }

@@ -7,13 +7,13 @@ begin-tree-requires : tie.Need-begin-tree-requires
 begin-tree-requires c κs = c .before .before .before .pre .3
 
 read-records-requires : tie.Need-read-records-requires
-read-records-requires c κs = c .before .before .before .before .before .before .pre
+read-records-requires c κs = c .before .before .before .before .before .before .before .pre
 
 same-length : tie.Need-same-length
 same-length c = search needs
 
 returns : tie.Need-returns
-returns c = rw (c .before .before .before .before .before .begin-tree .ensures) at (c .before .before .read-records .ensures)
+returns c = rw (c .before .before .before .before .before .before .begin-tree .ensures) at (c .before .before .read-records .ensures)
 
 pub read-net-spec : {M : Type 1} → statement M
 read-net-spec = tie.close (tie.spec begin-tree-requires read-records-requires same-length returns)

@@ -1,0 +1,4 @@
+pub mod Counts
+pub mod Places
+pub mod Reports
+pub mod Structs

@@ -1,0 +1,216 @@
+//! The comparison itself: a wire report with one small fault is found out.
+
+use maizespell_tests::generate::routable::any_routable_job;
+use maizespell_tests::job::Job;
+use maizespell_tests::library::ReplayResult;
+use maizespell_tests::pairs::Pairs;
+use maizespell_tests::plan::Record;
+use maizespell_tests::reader::{read, Refusal};
+use maizespell_tests::replay::{refused, replay};
+use maizespell_tests::report::{report, report_by, Counts, Kind, Report, COUNTS};
+use maizespell_tests::rules::board::Board;
+
+const SEED: u64 = 19;
+const JOBS: u32 = 40;
+
+/// The second wire report with other counts.
+fn miscounted(
+    change: fn(&Job, &mut Counts),
+    job: &[u8],
+    plan: &[u8],
+    map: &mut [u16],
+    work: &mut [u64],
+    found: &mut [u64],
+) -> ReplayResult {
+    let count = |board: &Board, records: &[Record]| {
+        let mut counts = Counts::of(board, records);
+        change(board.job, &mut counts);
+        counts
+    };
+    report_by(count, job, plan, map, work, found)
+}
+
+/// Counts of a kind go from each layer to the one above.
+fn lift(counts: &mut Counts, kind: Kind) {
+    for layer in (1..8).rev() {
+        *counts.at(layer, kind) = *counts.at(layer - 1, kind);
+    }
+    *counts.at(0, kind) = 0;
+}
+
+fn leave_out(counts: &mut Counts, kind: Kind) {
+    (0..8).for_each(|layer| *counts.at(layer, kind) = 0);
+}
+
+const MISCOUNTED: [(&str, Report); 9] = [
+    ("one step more", |job, plan, map, work, found| {
+        let change = |_: &Job, counts: &mut Counts| *counts.at(0, Kind::Steps) += 1;
+        miscounted(change, job, plan, map, work, found)
+    }),
+    ("steps a layer above", |job, plan, map, work, found| {
+        let change = |_: &Job, counts: &mut Counts| lift(counts, Kind::Steps);
+        miscounted(change, job, plan, map, work, found)
+    }),
+    ("vias a layer above", |job, plan, map, work, found| {
+        let change = |_: &Job, counts: &mut Counts| lift(counts, Kind::Vias);
+        miscounted(change, job, plan, map, work, found)
+    }),
+    (
+        "added steps a layer above",
+        |job, plan, map, work, found| {
+            let change = |_: &Job, counts: &mut Counts| lift(counts, Kind::Added);
+            miscounted(change, job, plan, map, work, found)
+        },
+    ),
+    (
+        "penalised segments left out",
+        |job, plan, map, work, found| {
+            let change = |_: &Job, counts: &mut Counts| leave_out(counts, Kind::Penalised);
+            miscounted(change, job, plan, map, work, found)
+        },
+    ),
+    (
+        "guide entries a layer above",
+        |job, plan, map, work, found| {
+            let change = |_: &Job, counts: &mut Counts| lift(counts, Kind::Guide);
+            miscounted(change, job, plan, map, work, found)
+        },
+    ),
+    (
+        "short entries a layer above",
+        |job, plan, map, work, found| {
+            let change = |_: &Job, counts: &mut Counts| lift(counts, Kind::Short);
+            miscounted(change, job, plan, map, work, found)
+        },
+    ),
+    (
+        "no guide entry at penalty 0",
+        |job, plan, map, work, found| {
+            let change = |job: &Job, counts: &mut Counts| {
+                if job.guide_penalty == 0 {
+                    leave_out(counts, Kind::Guide);
+                }
+            };
+            miscounted(change, job, plan, map, work, found)
+        },
+    ),
+    (
+        "no short entry at penalty 0",
+        |job, plan, map, work, found| {
+            let change = |job: &Job, counts: &mut Counts| {
+                if job.short_penalty == 0 {
+                    leave_out(counts, Kind::Short);
+                }
+            };
+            miscounted(change, job, plan, map, work, found)
+        },
+    ),
+];
+
+fn is_19(result: &ReplayResult) -> bool {
+    result.refusal == 19
+}
+
+/// The second wire report with a fault in what it answers or leaves.
+const MISLEFT: [(&str, Report); 9] = [
+    ("19 before replay", |job, plan, map, work, found| {
+        if found.len() < COUNTS {
+            let (number, place) = (19, 8);
+            return refused(Refusal { number, place });
+        }
+        report(job, plan, map, work, found)
+    }),
+    (
+        "lower counts added before 19",
+        |job, plan, map, work, found| {
+            let mut counts = vec![0; COUNTS];
+            let result = report(job, plan, map, work, found);
+            if is_19(&result) && found.len() >= COUNTS {
+                report(job, plan, map, work, &mut counts);
+                let fits = |(sum, count): (&mut u64, u64)| {
+                    *sum = sum.checked_add(count)?;
+                    Some(())
+                };
+                let _ = found.iter_mut().zip(counts).try_for_each(fits);
+            }
+            result
+        },
+    ),
+    ("sums around 2^64", |job, plan, map, work, found| {
+        let mut counts = vec![0; COUNTS];
+        let mut result = report(job, plan, map, work, found);
+        if is_19(&result) && found.len() >= COUNTS {
+            result = report(job, plan, map, work, &mut counts);
+            let sums = found.iter_mut().zip(counts);
+            sums.for_each(|(sum, count)| *sum = sum.wrapping_add(count));
+        }
+        result
+    }),
+    (
+        "number named in place of its layer",
+        |job, plan, map, work, found| {
+            let mut result = report(job, plan, map, work, found);
+            result.place *= 1 + 5 * u64::from(is_19(&result) && result.place < 8);
+            result
+        },
+    ),
+    (
+        "full numbers before a short report",
+        |job, plan, map, work, found| {
+            let mut result = report(job, plan, map, work, found);
+            if is_19(&result) && found.first() == Some(&u64::MAX) {
+                result.place = 0;
+            }
+            result
+        },
+    ),
+    ("totals after 19", |job, plan, map, work, found| {
+        let mut result = report(job, plan, map, work, found);
+        if is_19(&result) {
+            result.cost = replay(job, plan, map, work).cost;
+        }
+        result
+    }),
+    ("map zero after 19", |job, plan, map, work, found| {
+        let result = report(job, plan, map, work, found);
+        if let (true, Ok(job)) = (is_19(&result), read(job)) {
+            map[..job.grid().vertices() as usize].fill(0);
+        }
+        result
+    }),
+    (
+        "report zero beyond its counts",
+        |job, plan, map, work, found| {
+            let result = report(job, plan, map, work, found);
+            if let (0, Some(beyond)) = (result.refusal, found.get_mut(COUNTS)) {
+                *beyond = 0;
+            }
+            result
+        },
+    ),
+    ("a refused plan counts", |job, plan, map, work, found| {
+        let result = report(job, plan, map, work, found);
+        if let (18, Some(first)) = (result.refusal, found.first_mut()) {
+            *first = first.wrapping_add(1);
+        }
+        result
+    }),
+];
+
+fn differences(report: Report) -> u64 {
+    let mut pairs = Pairs::of_report(report, SEED);
+    pairs.ask_jobs(JOBS, any_routable_job);
+    pairs.comparison.tally.differences
+}
+
+#[test]
+fn every_fault_is_found_out() {
+    for (fault, report) in MISCOUNTED.into_iter().chain(MISLEFT) {
+        assert!(differences(report) > 0, "not found out: {fault}");
+    }
+}
+
+#[test]
+fn the_second_wire_report_agrees_with_itself() {
+    assert_eq!(differences(report), 0);
+}
