@@ -42,68 +42,54 @@ fn leave_out(counts: &mut Counts, kind: Kind) {
     (0..8).for_each(|layer| *counts.at(layer, kind) = 0);
 }
 
+/// The call with one change of the counts.
+macro_rules! miscounted {
+    ($change:expr) => {
+        |job, plan, map, work, found| miscounted($change, job, plan, map, work, found)
+    };
+}
+
+/// The second wire report with a fault in what it counts.
 const MISCOUNTED: [(&str, Report); 9] = [
-    ("one step more", |job, plan, map, work, found| {
-        let change = |_: &Job, counts: &mut Counts| *counts.at(0, Kind::Steps) += 1;
-        miscounted(change, job, plan, map, work, found)
-    }),
-    ("steps a layer above", |job, plan, map, work, found| {
-        let change = |_: &Job, counts: &mut Counts| lift(counts, Kind::Steps);
-        miscounted(change, job, plan, map, work, found)
-    }),
-    ("vias a layer above", |job, plan, map, work, found| {
-        let change = |_: &Job, counts: &mut Counts| lift(counts, Kind::Vias);
-        miscounted(change, job, plan, map, work, found)
-    }),
+    (
+        "one step more",
+        miscounted!(|_, counts| *counts.at(0, Kind::Steps) += 1),
+    ),
+    (
+        "steps a layer above",
+        miscounted!(|_, counts| lift(counts, Kind::Steps)),
+    ),
+    (
+        "vias a layer above",
+        miscounted!(|_, counts| lift(counts, Kind::Vias)),
+    ),
     (
         "added steps a layer above",
-        |job, plan, map, work, found| {
-            let change = |_: &Job, counts: &mut Counts| lift(counts, Kind::Added);
-            miscounted(change, job, plan, map, work, found)
-        },
+        miscounted!(|_, counts| lift(counts, Kind::Added)),
     ),
     (
         "penalised segments left out",
-        |job, plan, map, work, found| {
-            let change = |_: &Job, counts: &mut Counts| leave_out(counts, Kind::Penalised);
-            miscounted(change, job, plan, map, work, found)
-        },
+        miscounted!(|_, counts| leave_out(counts, Kind::Penalised)),
     ),
     (
         "guide entries a layer above",
-        |job, plan, map, work, found| {
-            let change = |_: &Job, counts: &mut Counts| lift(counts, Kind::Guide);
-            miscounted(change, job, plan, map, work, found)
-        },
+        miscounted!(|_, counts| lift(counts, Kind::Guide)),
     ),
     (
         "short entries a layer above",
-        |job, plan, map, work, found| {
-            let change = |_: &Job, counts: &mut Counts| lift(counts, Kind::Short);
-            miscounted(change, job, plan, map, work, found)
-        },
+        miscounted!(|_, counts| lift(counts, Kind::Short)),
     ),
     (
         "no guide entry at penalty 0",
-        |job, plan, map, work, found| {
-            let change = |job: &Job, counts: &mut Counts| {
-                if job.guide_penalty == 0 {
-                    leave_out(counts, Kind::Guide);
-                }
-            };
-            miscounted(change, job, plan, map, work, found)
-        },
+        miscounted!(|job, counts| if job.guide_penalty == 0 {
+            leave_out(counts, Kind::Guide)
+        }),
     ),
     (
         "no short entry at penalty 0",
-        |job, plan, map, work, found| {
-            let change = |job: &Job, counts: &mut Counts| {
-                if job.short_penalty == 0 {
-                    leave_out(counts, Kind::Short);
-                }
-            };
-            miscounted(change, job, plan, map, work, found)
-        },
+        miscounted!(|job, counts| if job.short_penalty == 0 {
+            leave_out(counts, Kind::Short)
+        }),
     ),
 ];
 

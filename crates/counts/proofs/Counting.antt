@@ -6,13 +6,12 @@
 use Prim.Native.Nat.{ℕ, _+_, _^_, _≤_, _<_}
 use mathlib.Core.Path.{_≡_, refl, sym, ap, _∙_}
 use mathlib.Core.List.{List, [], _∷_}
-use mathlib.Core.Bool.{Bool, true, false, cond, not}
+use mathlib.Core.Bool.{Bool, true, false, cond}
 use native.Mathlib.Omega.{arith}
 use native.Mathlib.Nat.{add-zero}
 use lib.ListN.{getD, set}
 use lib.Seq.{set-getD}
 use lib.Dec.{ltb}
-use borrow.Author.Tests.{lt-ltb}
 use Rattle.job.specs.Lists.{All}
 use Rattle.job.specs.Grid.{Grid, vertices}
 use Rattle.rules.specs.Tracks.{layerOf}
@@ -20,6 +19,7 @@ use Rattle.rules.specs.Seen.{holds, viewBy}
 use Rattle.rules.specs.Segments.{Place}
 use Rattle.rules.specs.Structs.{madeBy}
 use Rattle.rules.specs.declared.step.Made.{Made as MadeStruct}
+use Rattle.rules.proofs.Held.{seen-taken, seen-outside}
 use Rattle.counts.specs.Counts.{vias, steps, Count, count, counted, oneIf, wayCount, moveCounts, addedSteps, penalised, guideEntries, shortEntries}
 use Rattle.counts.specs.Structs.{CountsFit}
 use Rattle.counts.proofs.Adding.{counted-fit}
@@ -57,11 +57,6 @@ unfolding oneIf
 one-few true = omega arith
 one-few false = omega arith
 
--- twice not
-not-not : (b : Bool) → not (not b) ≡ b
-not-not true = refl
-not-not false = refl
-
 -- five counts, one after the other, are a move's
 pub move-counted : (g : Grid) (seen : List ℕ) (p : Place) (m : MadeStruct) (c₀ : List ℕ) {left entered : ℕ} {outside taken : Bool} {c₁ c₂ c₃ c₄ c₅ : List ℕ} → left ≡ layerOf g (p .vertex)
     → entered ≡ layerOf g (m .next .vertex) → m .next .vertex < vertices g
@@ -72,6 +67,6 @@ pub move-counted : (g : Grid) (seen : List ℕ) (p : Place) (m : MadeStruct) (c�
     → c₄ ≡ counted (count entered guideEntries (oneIf outside) ∷ []) c₃
     → c₅ ≡ counted (count entered shortEntries (oneIf taken) ∷ []) c₄
     → c₅ ≡ counted (moveCounts g (viewBy g seen) (p .vertex) (madeBy g (viewBy g seen) p m)) c₀
-unfolding counted moveCounts madeBy viewBy
+unfolding counted moveCounts madeBy
 move-counted g seen p m c₀ from into on out held way added penalties guide short =
-    rw (← from, ← into, lt-ltb _ _ on, not-not, ← out, ← held, ← way, ← added, ← penalties, ← guide) short
+    rw (← from, ← into, seen-outside g seen _ on, seen-taken g seen _ on, ← out, ← held, ← way, ← added, ← penalties, ← guide) short

@@ -1,6 +1,7 @@
 -- Reading the records of a net with arrays comes to what reading them by the definition comes to.
 --     NetMeet        what the two readings have in common
 --     entry-counts   the counts of a join that was read are those of its entry
+--     with-entry     the counts of an entry and of the rest are those of both
 --     net-follow     the law
 use Prim.Native.Nat.{ℕ, zero, suc, _+_, _<_}
 use mathlib.Core.Path.{_≡_, refl, sym, ap, subst, _∙_}

@@ -1,5 +1,6 @@
 -- The turns of reading the moves of a join.
---     Walking            what has been read, and that the rest gives the whole
+--     Walking            what has been read and counted, and that the rest gives the whole
+--     Answers            what the code answers and leaves
 --     move-fits          what is known of a move
 --     walking-begun      before the first move
 --     walking-on         after a move
