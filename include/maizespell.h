@@ -24,9 +24,9 @@
 
 /* The version, which the package and the tool have from here. */
 #define MAIZESPELL_VERSION_MAJOR 0
-#define MAIZESPELL_VERSION_MINOR 5
+#define MAIZESPELL_VERSION_MINOR 6
 #define MAIZESPELL_VERSION_PATCH 0
-#define MAIZESPELL_VERSION "0.5.0"
+#define MAIZESPELL_VERSION "0.6.0"
 
 #ifdef __cplusplus
 extern "C" {
@@ -75,8 +75,8 @@ enum maizespell_report_kind {
     MAIZESPELL_REPORT_VIAS = 1,          /* vias to the layer above, passed either way: at the lower layer */
     MAIZESPELL_REPORT_ADDED = 2,         /* added steps, at the layer of the segment that they lengthen */
     MAIZESPELL_REPORT_PENALISED = 3,     /* penalised segments, at their layer */
-    MAIZESPELL_REPORT_GUIDE_ENTRIES = 4, /* vertices entered outside the guide, at the layer entered */
-    MAIZESPELL_REPORT_SHORT_ENTRIES = 5, /* vertices entered that were taken, at the layer entered */
+    MAIZESPELL_REPORT_GUIDE_ENTRIES = 4, /* vertices outside the guide and not taken, at the layer entered */
+    MAIZESPELL_REPORT_SHORT_ENTRIES = 5, /* vertices that were taken, at the layer entered */
     MAIZESPELL_REPORT_KINDS = 6,
     MAIZESPELL_REPORT_LAYERS = 8,        /* for every job; also the place of 19 where the report is short */
     MAIZESPELL_REPORT_NEED = 48          /* numbers of a report: layers x kinds */
@@ -149,7 +149,8 @@ struct maizespell_replay_result maizespell_replay(const uint8_t *job, size_t job
  * for the report. The report is added to and not begun: lend zeros for the first plan, and after many it has
  * the sum over those that were accepted. A plan's counts times its job's prices make exactly its cost: by
  * kind wire price, via price, wire price, area penalty, guide penalty and short penalty. An entry counts also
- * where its penalty is 0. The start of a join is no entry.
+ * where its penalty is 0, and in one kind at most: a taken vertex outside the guide pays the short penalty
+ * alone. The start of a join is no entry.
  *
  * A plan that replay accepts is refused by 19 where the report is short, or else where a count would pass
  * 2^64 - 1. Then every number but refusal and place is 0, map and work are as after success, and nothing was

@@ -2,10 +2,12 @@
 //!
 //! Ends of ranges come up often: grids of one vertex and of 16,384, obstacles
 //! that end at the grid's end, prices 1 and 1,023, closed penalties, M 1 and 15.
-//! Jobs that are meant for routing are in `routable` and, with most vertices, in
-//! `large`; those of the benchmark in `benchmark`.
+//! Jobs that are meant for routing are in `routable`, with nets that cross from
+//! `crossing`, and, with most vertices, in `large`; those of the benchmark in
+//! `benchmark`.
 
 pub mod benchmark;
+mod crossing;
 pub mod large;
 pub mod routable;
 

@@ -1,4 +1,4 @@
-//! The twelve marked jobs, A to L, of "Routes by hand", in the specification's words.
+//! The thirteen marked jobs, A to L and N, of "Routes by hand", in the specification's words.
 
 pub mod by_hand;
 pub mod costs;
@@ -117,8 +117,17 @@ pub fn l() -> Job {
     }
 }
 
-/// All twelve, each with its letter.
-pub fn all() -> [(char, Job); 12] {
+pub fn n() -> Job {
+    let mut job = k();
+    job.nets[1].boxes.push(GuideBox {
+        low: vertex(0, 0, 0),
+        high: vertex(0, 3, 0),
+    });
+    job
+}
+
+/// All thirteen, each with its letter.
+pub fn all() -> [(char, Job); 13] {
     [
         ('A', a()),
         ('B', b()),
@@ -132,6 +141,7 @@ pub fn all() -> [(char, Job); 12] {
         ('J', j()),
         ('K', k()),
         ('L', l()),
+        ('N', n()),
     ]
 }
 

@@ -111,6 +111,7 @@ impl<A: Asked> Pairs<A> {
         self.seen.routed(&board, &cheapest);
         self.ask_legal("cheapest joins", &sized, &cheapest);
         let wandering = wandering_plan(&board, &mut self.random);
+        self.seen.outside_and_taken(&board, &wandering.records);
         self.ask_legal("wandering joins", &sized, &wandering);
         let records = if self.random.one_in(2) {
             &cheapest.records

@@ -12,9 +12,20 @@ use crate::rules::moves::Move;
 /// What a host can call: job, plan, map and work.
 pub type Replay = fn(&[u8], &[u8], &mut [u16], &mut [u64]) -> ReplayResult;
 
+/// The call with the rules of the specification.
+pub fn replay(job: &[u8], plan: &[u8], map: &mut [u16], work: &mut [u64]) -> ReplayResult {
+    replay_by(read_plan, job, plan, map, work)
+}
+
 /// "12 and 13 come after the job. Replay reads the plan in the same way after
 /// 13."
-pub fn replay(job: &[u8], plan: &[u8], map: &mut [u16], work: &mut [u64]) -> ReplayResult {
+pub fn replay_by(
+    read_plan: impl FnOnce(&Board, &[u8]) -> Result<Joined, Refusal>,
+    job: &[u8],
+    plan: &[u8],
+    map: &mut [u16],
+    work: &mut [u64],
+) -> ReplayResult {
     let job = match read(job) {
         Ok(job) => job,
         Err(refusal) => return refused(refusal),

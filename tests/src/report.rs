@@ -198,12 +198,18 @@ impl Counts {
         }
     }
 
-    /// "Guide and short entries (by the layer entered)", whatever the penalties are.
+    /// "Guide and short entries (by the layer entered)", whatever the penalties are. What is
+    /// outside the guide and taken is "a short entry only".
     fn add_entries(&mut self, job: &Job, net: &NetAtHand, walk: &Walk) {
         for entered in walk.entered() {
-            let layer = layer(job, *entered);
-            *self.at(layer, Kind::Guide) += u64::from(net.view.outside(*entered));
-            *self.at(layer, Kind::Short) += u64::from(net.view.taken(*entered));
+            let kind = if net.view.taken(*entered) {
+                Kind::Short
+            } else if net.view.outside(*entered) {
+                Kind::Guide
+            } else {
+                continue;
+            };
+            *self.at(layer(job, *entered), kind) += 1;
         }
     }
 }

@@ -65,16 +65,15 @@ pub fn walk(board: &Board, net: &NetAtHand, join: &Join) -> Walk {
     walk
 }
 
-/// The walks of a plan that is known to be legal, in order, each with its net's number.
-pub fn walks(board: &Board, records: &[Record]) -> Vec<(u16, Walk)> {
+/// Walks a plan that is known to be legal. `seen` is shown the net at hand at each record, with
+/// the walk of its join if it has one.
+pub fn follow(board: &Board, records: &[Record], mut seen: impl FnMut(&NetAtHand, Option<&Walk>)) {
     let mut records = records.iter();
-    let mut walks = Vec::new();
     let joined = join_nets(board, |net| {
         let join = records.next().and_then(Record::join);
         let walk = join.map(|join| walk(board, net, join));
-        walks.extend(walk.clone().map(|walk| (net.number(), walk)));
+        seen(net, walk.as_ref());
         Ok::<_, Infallible>(walk)
     });
     let Ok(_) = joined;
-    walks
 }

@@ -1,5 +1,6 @@
 //! How often each kind of case, and each thing of note in jobs, came up.
 
+mod outside_and_taken;
 mod reports;
 
 use std::collections::BTreeMap;
@@ -9,7 +10,7 @@ use crate::guide::Axis;
 use crate::job::{Job, CLOSED};
 use crate::joining::Walk;
 use crate::plan::Record;
-use crate::router::{walks, Routed};
+use crate::router::{follow, Routed};
 use crate::rules::board::Board;
 use crate::rules::metal::SEVERAL;
 use crate::rules::segment::Segment;
@@ -73,12 +74,14 @@ impl Seen {
         self.note("routed: added steps", totals.added);
         self.note("routed: penalised segments", totals.penalties);
         self.note("routed: jobs with shorts", u64::from(shared));
-        for (net, walk) in walks(board, &routed.records) {
+        follow(board, &routed.records, |net, walk| {
+            let Some(walk) = walk else { return };
             for extension in walk.extensions() {
                 self.note(laid(extension), 1);
             }
-            self.boxes(board.job, net, &walk);
-        }
+            self.boxes(board.job, net.number(), walk);
+        });
+        self.outside_and_taken(board, &routed.records);
     }
 
     /// What each of a net's boxes says of each vertex that a walk enters.

@@ -1,12 +1,18 @@
 //! The comparison itself: a replay with one small fault is found out.
 
 use maizespell_tests::generate::routable::any_routable_job;
+use maizespell_tests::library::ReplayResult;
 use maizespell_tests::pairs::Pairs;
 use maizespell_tests::reader::read;
-use maizespell_tests::replay::{replay, Replay};
+use maizespell_tests::replay::{read_plan, replay, replay_by, Replay};
+use maizespell_tests::rules::board::Board;
+use maizespell_tests::rules::mispriced::MISPRICED;
 
 const SEED: u64 = 12;
 const JOBS: u32 = 25;
+
+/// Wrong penalties make a difference in fewer jobs.
+const MISPRICED_JOBS: u32 = 200;
 
 /// The second replay with a fault, each with what it does wrong.
 const FAULTY: [(&str, Replay); 11] = [
@@ -81,20 +87,50 @@ const FAULTY: [(&str, Replay); 11] = [
     }),
 ];
 
-fn differences(replay: Replay) -> u64 {
+/// The second replay at the wrong penalties of this number.
+fn mispriced<const N: usize>(
+    job: &[u8],
+    plan: &[u8],
+    map: &mut [u16],
+    work: &mut [u64],
+) -> ReplayResult {
+    let read_plan = |board: &Board, plan: &[u8]| {
+        let board = Board::with_penalty(board.job, MISPRICED[N].1);
+        read_plan(&board, plan)
+    };
+    replay_by(read_plan, job, plan, map, work)
+}
+
+const AT_WRONG_PENALTIES: [Replay; MISPRICED.len()] = [
+    mispriced::<0>,
+    mispriced::<1>,
+    mispriced::<2>,
+    mispriced::<3>,
+];
+
+fn differences(replay: Replay, jobs: u32) -> u64 {
     let mut pairs = Pairs::of(replay, SEED);
-    pairs.ask_jobs(JOBS, any_routable_job);
+    pairs.ask_jobs(jobs, any_routable_job);
     pairs.comparison.tally.differences
 }
 
 #[test]
 fn every_fault_is_found_out() {
     for (fault, replay) in FAULTY {
-        assert!(differences(replay) > 0, "not found out: {fault}");
+        assert!(differences(replay, JOBS) > 0, "not found out: {fault}");
+    }
+}
+
+#[test]
+fn every_wrong_penalty_is_found_out() {
+    for ((fault, _), replay) in MISPRICED.iter().zip(AT_WRONG_PENALTIES) {
+        let differences = differences(replay, MISPRICED_JOBS);
+        println!("{differences} pairs of {MISPRICED_JOBS} jobs: {fault}");
+        assert!(differences > 0, "not found out: {fault}");
     }
 }
 
 #[test]
 fn the_second_replay_agrees_with_itself() {
-    assert_eq!(differences(replay), 0);
+    assert_eq!(differences(replay, JOBS), 0);
 }

@@ -40,6 +40,7 @@ fn generated_plans_get_the_answer_of_the_second_replay() {
     seen.assert_extensions(50);
     seen.assert_boxes(50);
     seen.assert_one_pin(50);
+    seen.assert_outside_and_taken(150);
     for (kind, _) in AIMED {
         seen.assert_often(kind, 500);
     }

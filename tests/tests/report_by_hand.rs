@@ -49,24 +49,24 @@ fn assert_adds(job: &Job, records: &[Record], layers: &[[u64; KINDS]]) -> Replay
 fn every_kind_is_counted_at_its_layer() {
     let (job, plan) = (every_kind::job(), every_kind::plan());
     let result = assert_adds(&job, &plan, &every_kind::LAYERS);
-    assert_eq!(result, succeeded(Totals::of(168, 2, 1, 3)));
+    assert_eq!(result, succeeded(Totals::of(158, 2, 1, 3)));
 }
 
-/// Net 2 has two guide entries and a short entry, net 3 two guide entries.
+/// Net 2 has a guide entry and a short entry, net 3 two guide entries.
 #[test]
 fn entries_count_at_penalty_0() {
     let mut job = every_kind::job();
     job.guide_penalty = 0;
     job.short_penalty = 0;
     let mut plan = every_kind::plan();
-    for (record, less) in plan.iter_mut().zip([0, 40, 20]) {
+    for (record, less) in plan.iter_mut().zip([0, 30, 20]) {
         let Record::Join(join) = record else {
             panic!("every record is a join");
         };
         join.cost -= less;
     }
     let result = assert_adds(&job, &plan, &every_kind::LAYERS);
-    assert_eq!(result.cost, 168 - 60);
+    assert_eq!(result.cost, 158 - 50);
 }
 
 #[test]

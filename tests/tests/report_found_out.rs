@@ -1,21 +1,22 @@
 //! The comparison itself: a wire report with one small fault is found out.
 
 use maizespell_tests::generate::routable::any_routable_job;
-use maizespell_tests::job::Job;
+use maizespell_tests::joining::Walk;
 use maizespell_tests::library::ReplayResult;
 use maizespell_tests::pairs::Pairs;
 use maizespell_tests::plan::Record;
 use maizespell_tests::reader::{read, Refusal};
 use maizespell_tests::replay::{refused, replay};
 use maizespell_tests::report::{report, report_by, Counts, Kind, Report, COUNTS};
+use maizespell_tests::router::follow;
 use maizespell_tests::rules::board::Board;
 
-const SEED: u64 = 19;
-const JOBS: u32 = 40;
+const SEED: u64 = 20;
+const JOBS: u32 = 100;
 
 /// The second wire report with other counts.
 fn miscounted(
-    change: fn(&Job, &mut Counts),
+    change: fn(&Board, &[Record], &mut Counts),
     job: &[u8],
     plan: &[u8],
     map: &mut [u16],
@@ -24,7 +25,7 @@ fn miscounted(
 ) -> ReplayResult {
     let count = |board: &Board, records: &[Record]| {
         let mut counts = Counts::of(board, records);
-        change(board.job, &mut counts);
+        change(board, records, &mut counts);
         counts
     };
     report_by(count, job, plan, map, work, found)
@@ -42,6 +43,18 @@ fn leave_out(counts: &mut Counts, kind: Kind) {
     (0..8).for_each(|layer| *counts.at(layer, kind) = 0);
 }
 
+/// The layer of each entry of a vertex that is outside the guide and taken.
+fn outside_and_taken(board: &Board, records: &[Record]) -> Vec<u32> {
+    let grid = board.job.grid();
+    let mut layers = Vec::new();
+    follow(board, records, |net, walk| {
+        let entered = walk.map_or(&[][..], Walk::entered).iter();
+        let both = entered.filter(|vertex| net.view.outside_and_taken(**vertex));
+        layers.extend(both.map(|vertex| grid.numbered(*vertex as u32).layer));
+    });
+    layers
+}
+
 /// The call with one change of the counts.
 macro_rules! miscounted {
     ($change:expr) => {
@@ -50,45 +63,62 @@ macro_rules! miscounted {
 }
 
 /// The second wire report with a fault in what it counts.
-const MISCOUNTED: [(&str, Report); 9] = [
+const MISCOUNTED: [(&str, Report); 11] = [
     (
         "one step more",
-        miscounted!(|_, counts| *counts.at(0, Kind::Steps) += 1),
+        miscounted!(|_, _, counts| *counts.at(0, Kind::Steps) += 1),
     ),
     (
         "steps a layer above",
-        miscounted!(|_, counts| lift(counts, Kind::Steps)),
+        miscounted!(|_, _, counts| lift(counts, Kind::Steps)),
     ),
     (
         "vias a layer above",
-        miscounted!(|_, counts| lift(counts, Kind::Vias)),
+        miscounted!(|_, _, counts| lift(counts, Kind::Vias)),
     ),
     (
         "added steps a layer above",
-        miscounted!(|_, counts| lift(counts, Kind::Added)),
+        miscounted!(|_, _, counts| lift(counts, Kind::Added)),
     ),
     (
         "penalised segments left out",
-        miscounted!(|_, counts| leave_out(counts, Kind::Penalised)),
+        miscounted!(|_, _, counts| leave_out(counts, Kind::Penalised)),
     ),
     (
         "guide entries a layer above",
-        miscounted!(|_, counts| lift(counts, Kind::Guide)),
+        miscounted!(|_, _, counts| lift(counts, Kind::Guide)),
     ),
     (
         "short entries a layer above",
-        miscounted!(|_, counts| lift(counts, Kind::Short)),
+        miscounted!(|_, _, counts| lift(counts, Kind::Short)),
     ),
     (
         "no guide entry at penalty 0",
-        miscounted!(|job, counts| if job.guide_penalty == 0 {
+        miscounted!(|board, _, counts| if board.job.guide_penalty == 0 {
             leave_out(counts, Kind::Guide)
         }),
     ),
     (
         "no short entry at penalty 0",
-        miscounted!(|job, counts| if job.short_penalty == 0 {
+        miscounted!(|board, _, counts| if board.job.short_penalty == 0 {
             leave_out(counts, Kind::Short)
+        }),
+    ),
+    (
+        "guide entry too where taken",
+        miscounted!(|board, records, counts| {
+            for layer in outside_and_taken(board, records) {
+                *counts.at(layer, Kind::Guide) += 1;
+            }
+        }),
+    ),
+    (
+        "guide entry alone where taken",
+        miscounted!(|board, records, counts| {
+            for layer in outside_and_taken(board, records) {
+                *counts.at(layer, Kind::Guide) += 1;
+                *counts.at(layer, Kind::Short) -= 1;
+            }
         }),
     ),
 ];

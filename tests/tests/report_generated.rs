@@ -58,6 +58,7 @@ fn generated_plans_get_the_report_of_the_second_one() {
     }
     assert_eq!(tally.places[19].len(), 9, "8 layers, and short reports");
     pairs.seen.assert_reports(LEAST);
+    pairs.seen.assert_outside_and_taken(500);
 }
 
 /// The slices lie against pages that cannot be touched.

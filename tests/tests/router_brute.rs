@@ -34,4 +34,5 @@ fn joins_come_first_among_all_short_routes() {
     checked.assert_many();
     seen.assert_extensions(LEAST);
     seen.assert_boxes(LEAST);
+    seen.assert_outside_and_taken(100);
 }

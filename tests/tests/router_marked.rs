@@ -1,4 +1,4 @@
-//! The second router on the twelve marked jobs, with the results of "Routes by
+//! The second router on the thirteen marked jobs, with the results of "Routes by
 //! hand", and what must not come out of the specification's traps.
 
 use maizespell_tests::grid::{vertex, Vertex};

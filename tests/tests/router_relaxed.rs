@@ -13,7 +13,7 @@ use maizespell_tests::router::{route, walk};
 use maizespell_tests::rules::board::Board;
 
 const SEED: u64 = 2_718;
-const JOBS: u32 = 400;
+const JOBS: u32 = 600;
 
 /// The moves of the longest join.
 fn check_job(job: &Job) -> usize {

@@ -36,6 +36,7 @@ fn records_come_first_among_all_short_routes() {
     checked.assert_many();
     seen.assert_extensions(LEAST);
     seen.assert_boxes(LEAST);
+    seen.assert_outside_and_taken(100);
 }
 
 #[test]
@@ -45,5 +46,5 @@ fn marked_records_come_first_among_all_short_routes() {
         checked.check(&job, &routed_by(ROUTING, &job));
     }
     println!("{checked:#?}");
-    assert_eq!((checked.joins, checked.none), (12, 3));
+    assert_eq!((checked.joins, checked.none), (14, 3));
 }

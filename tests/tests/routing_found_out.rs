@@ -12,13 +12,17 @@ use maizespell_tests::random::Random;
 use maizespell_tests::reader::{read, Refusal, RETIRED};
 use maizespell_tests::replay::replay;
 use maizespell_tests::router::search::Search;
-use maizespell_tests::router::{one_bound, walk, Routed};
+use maizespell_tests::router::{one_bound, route, walk, Routed};
 use maizespell_tests::routing::{refused, routing, routing_by, Routing};
 use maizespell_tests::rules::board::Board;
+use maizespell_tests::rules::mispriced::MISPRICED;
 use maizespell_tests::wander::wandering_plan;
 
 const SEED: u64 = 77;
 const JOBS: u32 = 120;
+
+/// Wrong penalties make a difference in fewer jobs.
+const MISPRICED_JOBS: u32 = 1_000;
 
 /// Jobs on which the second routing is asked against itself.
 const AGREED_JOBS: u32 = 4_000;
@@ -219,17 +223,44 @@ const FAULTY: [(&str, Routing); 25] = [
     }),
 ];
 
+/// The second routing at the wrong penalties of this number.
+fn mispriced<const N: usize>(
+    job: &[u8],
+    map: &mut [u16],
+    work: &mut [u64],
+    plan: &mut [u8],
+) -> RoutingResult {
+    let router = |board: &Board| route(&Board::with_penalty(board.job, MISPRICED[N].1));
+    routing_by(router, job, map, work, plan)
+}
+
+const AT_WRONG_PENALTIES: [Routing; MISPRICED.len()] = [
+    mispriced::<0>,
+    mispriced::<1>,
+    mispriced::<2>,
+    mispriced::<3>,
+];
+
 /// The differences of this routing from the second one.
-fn differences(routing: Routing) -> u64 {
+fn differences(routing: Routing, jobs: u32) -> u64 {
     let mut lent = Lent::of(routing, replay, SEED);
-    lent.ask_jobs(JOBS, quick_routable_job);
+    lent.ask_jobs(jobs, quick_routable_job);
     lent.comparison.tally.differences
 }
 
 #[test]
 fn every_fault_is_found_out() {
     for (fault, routing) in FAULTY {
-        assert!(differences(routing) > 0, "not found out: {fault}");
+        assert!(differences(routing, JOBS) > 0, "not found out: {fault}");
+    }
+}
+
+#[test]
+fn every_wrong_penalty_is_found_out() {
+    for ((fault, _), routing) in MISPRICED.iter().zip(AT_WRONG_PENALTIES) {
+        let differences = differences(routing, MISPRICED_JOBS);
+        println!("{differences} of {MISPRICED_JOBS} jobs: {fault}");
+        assert!(differences > 0, "not found out: {fault}");
     }
 }
 

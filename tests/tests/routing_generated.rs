@@ -37,6 +37,7 @@ fn generated_jobs_get_the_answer_of_the_second_routing() {
     println!("{seen}{tally}{JOBS} jobs in {time:?}");
     tally.assert_same();
     seen.assert_all_kinds(LEAST);
+    seen.assert_outside_and_taken(500);
     for slice in ["map", "work", "plan"] {
         seen.assert_often(&format!("slice: {slice} exact"), 1_000);
         seen.assert_often(&format!("slice: {slice} longer"), 1_000);

@@ -1,4 +1,4 @@
-//! Routing of the twelve marked jobs: the results of "Routes by hand", and the answer
+//! Routing of the thirteen marked jobs: the results of "Routes by hand", and the answer
 //! of the second routing to the last bit.
 
 use maizespell_tests::job::Job;

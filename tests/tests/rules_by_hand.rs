@@ -184,7 +184,7 @@ fn an_obstacle_stops_an_extension_and_the_guide_does_not() {
 }
 
 #[test]
-fn penalties_are_added_to_the_price_of_entering() {
+fn a_penalty_is_added_to_the_price_of_entering() {
     let mut job = job();
     job.nets.push(marked::b().nets[0].clone());
     job.nets[1].pins = vec![vertex(0, 3, 7), vertex(1, 3, 7)];
@@ -196,13 +196,20 @@ fn penalties_are_added_to_the_price_of_entering() {
         made.map(|made| made.entering)
     };
     assert_eq!(entering(&job, &[]), Ok(3 + 10));
-    assert_eq!(entering(&job, &[to]), Ok(3 + 10 + 20));
-    job.short_penalty = CLOSED;
-    assert_eq!(entering(&job, &[to]), Err(Cause::ShortClosed));
+    assert_eq!(entering(&job, &[to]), Ok(3 + 20));
     job.guide_penalty = CLOSED;
     assert_eq!(entering(&job, &[]), Err(Cause::GuideClosed));
+    assert_eq!(entering(&job, &[to]), Err(Cause::GuideClosedTaken));
+    job.short_penalty = CLOSED;
+    assert_eq!(entering(&job, &[to]), Err(Cause::ShortClosedOutside));
+    job.guide_penalty = 10;
+    assert_eq!(entering(&job, &[to]), Err(Cause::ShortClosedOutside));
+    assert_eq!(entering(&job, &[]), Ok(3 + 10));
     job.nets[0].boxes.clear();
+    assert_eq!(entering(&job, &[to]), Err(Cause::ShortClosed));
     assert_eq!(entering(&job, &[]), Ok(3));
+    job.short_penalty = 20;
+    assert_eq!(entering(&job, &[to]), Ok(3 + 20));
 }
 
 #[test]

@@ -1,4 +1,4 @@
-//! The twelve marked jobs and the edges that the specification names.
+//! The thirteen marked jobs and the edges that the specification names.
 
 use maizespell_tests::compare::check;
 use maizespell_tests::job::Job;
@@ -8,7 +8,7 @@ use maizespell_tests::reader::Refusal;
 use maizespell_tests::sizing::{refused, sized};
 
 /// Vertices and work need of each marked job, reckoned by hand.
-const BY_HAND: [(char, u64, u64); 12] = [
+const BY_HAND: [(char, u64, u64); 13] = [
     ('A', 64, 1_024),
     ('B', 64, 1_024),
     ('C', 32, 512),
@@ -21,6 +21,7 @@ const BY_HAND: [(char, u64, u64); 12] = [
     ('J', 64, 1_024),
     ('K', 12, 192),
     ('L', 12, 192),
+    ('N', 12, 192),
 ];
 
 fn refusal(number: u64, place: u64) -> SizingResult {

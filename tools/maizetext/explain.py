@@ -55,12 +55,21 @@ def join_lines(number: int, join: JoinTrace) -> Iterator[str]:
 
 def move_line(number: int, made: Made, so_far: int) -> str:
     """A move, the vertex entered, the price in its parts, the overhead and the running cost."""
-    price = made.price
-    numbers = f"{price.base:6}{dash(price.guide):>7}{dash(price.short):>7}{dash(made.over.price):>10}{so_far:10}"
+    price, over = made.price, made.over.price or None
+    numbers = f"{price.base:6}{dash(price.guide):>7}{dash(price.short):>7}{dash(over):>10}{so_far:10}"
     line = f"  {number:5}  {MOVES[made.move]:4}  {made.place.vertex!s:11}{numbers}"
+    said = "; ".join(notes(made))
+    return f"{line}  {said}" if said else line
+
+
+def notes(made: Made) -> Iterator[str]:
+    """What the numbers leave open: which penalty was read where two might be, and what the overhead is for."""
+    if made.price.both:
+        yield "outside and taken: short penalty alone"
     if made.over.laid:
-        return f"{line}  extension {ends(made.over)}"
-    return f"{line}  area penalty" if made.over.penalised else line
+        yield f"extension {ends(made.over)}"
+    if made.over.penalised:
+        yield "area penalty"
 
 
 def ends(over: Overhead) -> str:
@@ -70,5 +79,5 @@ def ends(over: Overhead) -> str:
 
 
 def dash(price: Optional[int]) -> str:
-    """A part of a price; nothing is a dash."""
-    return str(price) if price else "-"
+    """A part of a price, 0 included; none is a dash."""
+    return "-" if price is None else str(price)

@@ -1,4 +1,4 @@
-"""The twelve marked jobs, A to L, by their bytes, and the records that routing them writes."""
+"""The thirteen marked jobs, A to L and N, by their bytes, and the records that routing them writes."""
 
 from dataclasses import replace
 
@@ -21,6 +21,8 @@ JOBS = {
     "J": "11 07 03 00 0A 00 14 01 00 00 00 40 23 00 32 00 40 03 00 32 11 00 00 00 00 0C 00 00 00 00 20",
     "K": "12 00 03 00 0A 00 14 02 00 00 00 40 23 00 32 00 40 23 00 32 00 40 03 00 32 10 20 00 04 08 00 40 00 80 20 10 00",
     "L": "12 00 03 00 0A FF FF 02 00 00 00 40 23 00 32 00 40 23 00 32 00 40 03 00 32 10 20 00 04 08 00 40 00 80 20 10 00",
+    "N": "12 00 03 00 0A 00 14 02 00 00 00 40 23 00 32 00 40 23 00 32 00 40 03 00 32 10 20 00 04 08 00 44 00 80 20 10 00 "
+    "00 00 C0 00 00",
 }
 
 RECORDS = {
@@ -36,9 +38,11 @@ RECORDS = {
     "J": [Join(Vertex(0, 0, 0), (HIGH, HIGH, HIGH), 13)],
     "K": [Join(Vertex(1, 0, 0), (HIGH, HIGH), 2), Join(Vertex(0, 1, 0), (UP, UP), 74)],
     "L": [Join(Vertex(1, 0, 0), (HIGH, HIGH), 2), None],
+    "N": [Join(Vertex(1, 0, 0), (HIGH, HIGH), 2), Join(Vertex(0, 1, 0), (UP, UP), 84)],
 }
 
-LETTERS = "ABCDEFGHIJKL"
+LETTERS = "ABCDEFGHIJKLN"
+"""M is the minimum length."""
 
 
 def job_bytes(letter: str) -> bytes:

@@ -6,7 +6,7 @@ from dataclasses import replace
 import support  # noqa: F401
 from maizetext.counts import ADDED, PENALISED, added_up, by_kind, costs_of, counts_of, prices_of
 from maizetext.grid import DOWN, HIGH, UP, Vertex
-from maizetext.job import Box, Job, Net
+from maizetext.job import Job, Net
 from maizetext.job_reading import read_job
 from maizetext.plan import Join, pack_plan
 from maizetext.replay import replay
@@ -28,6 +28,7 @@ BY_HAND = {
     "J": [[3, 0, 0, 0, 1, 0], NONE],
     "K": [[0, 1, 0, 0, 0, 0], [2, 1, 0, 1, 0, 1], NONE],
     "L": [NONE, [2, 0, 0, 0, 0, 0], NONE],
+    "N": [[0, 1, 0, 0, 0, 0], [2, 1, 0, 1, 0, 1], [0, 0, 0, 0, 1, 0]],
 }
 """For each marked job and layer: wire steps, vias, added steps, penalised segments, guide and short entries."""
 
@@ -68,12 +69,11 @@ class Counts(unittest.TestCase):
     def test_without_boxes_there_is_no_guide_entry(self):
         self.assertEqual(self.counts(replace(marked("A"), guide=0), plan_bytes("A"), 3), BY_HAND["A"])
 
-    def test_outside_the_guide_and_taken(self):
-        job = marked("K")
-        boxed = Net(job.nets[1].pins, (Box(Vertex(0, 0, 0), Vertex(0, 3, 0)),))
-        plan = pack_plan([Join(Vertex(1, 0, 0), (HIGH, HIGH), 2), Join(Vertex(0, 1, 0), (UP, UP), 94)])
-        counts = self.counts(replace(job, nets=(job.nets[0], boxed)), plan, 96)
-        self.assertEqual(counts, [[0, 1, 0, 0, 0, 0], [2, 1, 0, 1, 1, 1], [0, 0, 0, 0, 1, 0]])
+    def test_outside_the_guide_and_taken_is_a_short_entry_at_penalty_0_too(self):
+        first, second = RECORDS["N"]
+        for job, cost in ((replace(marked("N"), guide=0), 74), (replace(marked("N"), short=0), 64)):
+            plan = pack_plan([first, second._replace(cost=cost)])
+            self.assertEqual(self.counts(job, plan, 2 + cost), BY_HAND["N"])
 
     def test_what_is_entered_again_counts_again(self):
         again = Join(Vertex(0, 0, 0), (HIGH, UP, HIGH, DOWN), 8)

@@ -61,6 +61,7 @@ class Pictures(unittest.TestCase):
         self.counted("H", layer=3, pin=2, wire=1, via_up=2, via_down=2, extension=1)
         self.counted("J", guide=1, pin=2, wire=1)
         self.counted("K", pin=4, wire=1, via_up=2, via_down=2, short=1)
+        self.counted("N", guide=1, pin=4, wire=1, via_up=2, via_down=2, short=1)
 
     def test_a_net_of_one_pin(self):
         job = plain((Vertex(0, 0, 0), Vertex(0, 0, 3)), (Vertex(1, 3, 7),))

@@ -32,7 +32,7 @@ class Examples(unittest.TestCase):
     def test_each_has_a_line_in_the_readme(self):
         readme = (EXAMPLES / "README.md").read_text()
         named = [path.relative_to(EXAMPLES) for path in files("*") if path.name != "README.md"]
-        self.assertGreaterEqual(len(named), 18)
+        self.assertGreaterEqual(len(named), 19)
         for path in (*named, "host"):
             self.assertIn(f"`{path}`", readme)
 

@@ -1,10 +1,12 @@
 """A plan in words."""
 
 import unittest
+from dataclasses import replace
 
 import support  # noqa: F401
 from maizetext.explain import explain
-from maizetext.grid import HIGH, LOW, UP, Vertex
+from maizetext.grid import DOWN, HIGH, LOW, UP, Vertex
+from maizetext.job import CLOSED, Box, Net
 from maizetext.job_reading import read_job
 from maizetext.plan import Join, pack_plan
 from marked import LETTERS, RECORDS, job_bytes, plain, plan_bytes
@@ -26,6 +28,20 @@ net 1: pins (0,0,0) (0,1,3)
 totals: cost 10, added steps 2, penalised segments 0, nets fully joined 1 of 1
 the plan is legal and its recorded costs are right
 """
+
+SECOND_OF_N = """\
+net 2: pins (0,1,0) (2,1,0)
+  join 1 from (0,1,0)
+         move  enters       base  guide  short  overhead    so far
+      1  up    (1,1,0)         2      -     20         -        22  outside and taken: short penalty alone
+      2  up    (2,1,0)         2     10      -        50        84  area penalty
+    cost 84, as recorded
+  joined: cost 84
+totals: cost 86, added steps 0, penalised segments 1, nets fully joined 2 of 2
+the plan is legal and its recorded costs are right
+"""
+
+ALONE = "outside and taken: short penalty alone"
 
 
 class Explained(unittest.TestCase):
@@ -62,6 +78,42 @@ class Explained(unittest.TestCase):
         self.assertTrue(any(line.endswith("50        58  area penalty") for line in self.explained("C", plan_bytes("C"))[0]))
         self.assertIn("      3  high  (0,0,3)         1     10      -         -        13", self.explained("J", plan_bytes("J"))[0])
         self.assertIn("      1  up    (1,1,0)         2      -     20         -        22", self.explained("K", plan_bytes("K"))[0])
+
+    def test_which_penalty_was_read(self):
+        text, legal = explain(read_job(job_bytes("N")), plan_bytes("N"))
+        self.assertTrue(legal)
+        self.assertEqual(text[text.index("net 2") :], SECOND_OF_N)
+
+    def test_a_penalty_of_0_was_read_too(self):
+        first, second = RECORDS["N"]
+        job = replace(read_job(job_bytes("N")), guide=0, short=0)
+        text, legal = explain(job, pack_plan([first, second._replace(cost=54)]))
+        self.assertTrue(legal)
+        self.assertIn(f"      1  up    (1,1,0)         2      -      0         -         2  {ALONE}\n", text)
+        self.assertIn("      2  up    (2,1,0)         2      0      -        50        54  area penalty\n", text)
+
+    def test_a_short_outside_with_an_extension(self):
+        wire, over = (Vertex(2, 0, 0), Vertex(2, 0, 3)), (Vertex(0, 0, 1), Vertex(0, 0, 2))
+        boxed = Net(over, (Box(Vertex(0, 0, 0), Vertex(1, 3, 7)),))
+        joins = [Join(wire[0], (HIGH,) * 3, 3), Join(over[0], (UP, UP, HIGH, DOWN, DOWN), 2 + 25 + 21 + 52 + 5)]
+        text, legal = explain(replace(read_job(job_bytes("E")), nets=(Net(wire), boxed)), pack_plan(joins))
+        self.assertTrue(legal)
+        said = f"{ALONE}; extension (1,1,1) (1,2,1) (1,3,1) at the leaving end"
+        self.assertIn(f"      2  up    (2,0,1)         2      -     20         3        27  {said}\n", text)
+        self.assertIn("      4  down  (1,0,2)         2      -      -        50       100  area penalty\n", text)
+
+    def test_a_closed_guide_penalty_forbids_a_taken_vertex_too(self):
+        text, legal = explain(replace(read_job(job_bytes("N")), guide=CLOSED), plan_bytes("N"))
+        self.assertFalse(legal)
+        said = "move 'up' from (0,1,0) is not legal: (1,1,0) lies outside the guide, whose penalty is closed\n"
+        self.assertTrue(text.endswith(said), text)
+
+    def test_a_cost_with_both_penalties_is_wrong(self):
+        first, second = RECORDS["N"]
+        lines, legal = self.explained("N", pack_plan([first, second._replace(cost=94)]))
+        self.assertFalse(legal)
+        self.assertIn(f"      1  up    (1,1,0)         2      -     20         -        22  {ALONE}", lines)
+        self.assertTrue(lines[-1].endswith("94 is recorded, the moves cost 84"), lines[-1])
 
     def test_nets_are_told_apart(self):
         lines = self.explained("K", plan_bytes("K"))[0]

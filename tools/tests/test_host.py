@@ -61,7 +61,7 @@ class Reports(Folder):
     def test_all_examples_together(self):
         done = self.reported(examples())
         self.assertEqual((done.returncode, done.stderr), (0, b""))
-        self.assertEqual(done.stdout.decode(), table(examples(), 240 + 107, 11 + 4))
+        self.assertEqual(done.stdout.decode(), table(examples(), 326 + 107, 13 + 4))
 
     def test_what_is_refused_adds_nothing(self):
         good, plan_of_b, cut = examples()[0], (job_bytes("A"), plan_bytes("B")), (job_bytes("A")[:12], plan_bytes("A"))

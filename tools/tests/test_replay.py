@@ -1,16 +1,19 @@
 """Plans walked: against what a second replay answers, and plans damaged one by one."""
 
 import unittest
+from dataclasses import replace
 
 import support
 from maizetext.grid import DOWN, HIGH, LOW, UP, Vertex
+from maizetext.job import CLOSED, Box, Job
 from maizetext.job_reading import read_job
 from maizetext.plan import Join, pack_plan
 from maizetext.refusals import Refused
 from maizetext.replay import replay
-from marked import LETTERS, job_bytes, plain, plan_bytes
+from maizetext.steps import Made
+from marked import LETTERS, RECORDS, job_bytes, plain, plan_bytes
 
-COSTS = {"A": 3, "B": 10, "C": 58, "D": 0, "E": 7, "F": 54, "G": 0, "H": 7, "I": 10, "J": 13, "K": 76, "L": 2}
+COSTS = {"A": 3, "B": 10, "C": 58, "D": 0, "E": 7, "F": 54, "G": 0, "H": 7, "I": 10, "J": 13, "K": 76, "L": 2, "N": 86}
 
 
 def answer(job: bytes, plan: bytes) -> tuple[int, ...]:
@@ -30,9 +33,14 @@ def pairs() -> list[list[str]]:
     return [line.split("|") for line in lines if not line.startswith("#")]
 
 
+def moves_of(job: Job, plan: bytes) -> list[Made]:
+    """All moves of a plan."""
+    return [made for net in replay(job, plan).nets for join in net.joins for made in join.moves]
+
+
 def ends_met(job: bytes, plan: bytes) -> set[tuple[bool, bool]]:
     """For each extension of a plan, whether something is laid at its leaving and at its starting end."""
-    moves = [made for net in replay(read_job(job), plan).nets for join in net.joins for made in join.moves]
+    moves = moves_of(read_job(job), plan)
     return {(bool(made.over.leaving), bool(made.over.starting)) for made in moves if made.over.laid}
 
 
@@ -59,6 +67,14 @@ class SecondReplay(unittest.TestCase):
         self.assertGreaterEqual(len(alone), 3)
         for nets, answer in alone:
             self.assertEqual(answer, f"0 0 0 0 0 {nets}")
+
+    def test_they_enter_vertices_outside_the_guide_and_taken(self):
+        good = [pair for pair in pairs() if pair[2].startswith("0 ")]
+        plans = [(read_job(bytes.fromhex(job)), bytes.fromhex(plan)) for job, plan, _ in good]
+        both = [job for job, plan in plans if any(made.price.both for made in moves_of(job, plan))]
+        self.assertGreaterEqual(len(both), 10)
+        self.assertTrue(any(job.guide < job.short for job in both) and any(job.guide > job.short for job in both))
+        self.assertTrue(any(job.guide == 0 for job in both) and any(job.short == 0 for job in both))
 
 
 class OnePin(unittest.TestCase):
@@ -93,7 +109,7 @@ class MarkedPlans(unittest.TestCase):
         self.assertEqual(plan_bytes("A").hex(" ").upper(), "80 00 00 00 03 54 00 00 00 00 0C")
 
     def test_join_by_join(self):
-        for letter, costs in (("I", [3, 7]), ("K", [2, 74]), ("L", [2])):
+        for letter, costs in (("I", [3, 7]), ("K", [2, 74]), ("L", [2]), ("N", [2, 84])):
             trace = replay(read_job(job_bytes(letter)), plan_bytes(letter))
             self.assertEqual([join.cost() for net in trace.nets for join in net.joins], costs)
 
@@ -105,6 +121,41 @@ class MarkedPlans(unittest.TestCase):
     def test_the_last_segment_pays_none(self):
         trace = replay(read_job(job_bytes("B")), plan_bytes("B"))
         self.assertEqual(trace.nets[0].joins[0].moves[-1].over.laid, (Vertex(1, 2, 3), Vertex(1, 3, 3)))
+
+
+class OutsideAndTaken(unittest.TestCase):
+    """N's second net enters (1,1,0), which its first net took and which no box of the second holds."""
+
+    def test_only_the_short_penalty_is_added(self):
+        short, last = (made.price for made in moves_of(read_job(job_bytes("N")), plan_bytes("N"))[-2:])
+        self.assertEqual((short.both, short.guide, short.short, short.total()), (True, None, 20, 22))
+        self.assertEqual((last.both, last.guide, last.short, last.total()), (False, 10, None, 12))
+
+    def test_a_short_costs_the_same_in_the_guide_and_outside(self):
+        job = read_job(job_bytes("N"))
+        first, second = job.nets
+        for guide in (0, 10, 65_534):
+            for top in (0, 1):
+                boxed = replace(second, boxes=(Box(Vertex(0, 0, 0), Vertex(top, 3, 0)),))
+                moves = moves_of(replace(job, guide=guide, nets=(first, boxed)), plan_bytes("N"))
+                self.assertEqual([made.cost() for made in moves], [1, 1, 2 + 20, 2 + 50 + guide])
+
+    def test_either_penalty_closed_forbids(self):
+        for closed, part in (
+            ({"guide": CLOSED}, "(1,1,0) lies outside the guide, whose penalty is closed"),
+            ({"short": CLOSED}, "(1,1,0) is taken, and the short penalty is closed"),
+            ({"guide": CLOSED, "short": CLOSED}, "(1,1,0) lies outside the guide, whose penalty is closed"),
+        ):
+            broken = replay(replace(read_job(job_bytes("N")), **closed), plan_bytes("N")).broken
+            self.assertEqual((broken.number, broken.place), (17, 124))
+            self.assertIn(part, str(broken))
+
+    def test_another_sum_is_a_wrong_cost(self):
+        first, second = RECORDS["N"]
+        for cost in (74, 94):
+            broken = replay(read_job(job_bytes("N")), pack_plan([first, second._replace(cost=cost)])).broken
+            self.assertEqual((broken.number, broken.place), (18, 128))
+            self.assertIn(f"{cost} is recorded, the moves cost 84", str(broken))
 
 
 class DamagedPlans(unittest.TestCase):

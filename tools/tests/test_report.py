@@ -65,6 +65,13 @@ class Reports(unittest.TestCase):
         self.assertNotIn("layer  ", broken)
         self.assertEqual(over, OF_J_AND_K)
 
+    def test_outside_the_guide_and_taken_is_a_short_entry_alone(self):
+        text, right = report([block("N", "N")])
+        self.assertTrue(right)
+        self.assertIn("\n1      count           2           1           0           1           0           1\n", text)
+        self.assertIn("\n2      count           0           0           0           0           1           0\n", text)
+        self.assertTrue(text.endswith("\ncounts times prices make 86, which is the cost\n"), text)
+
     def test_the_same_plan_twice_counts_twice(self):
         text, right = report([block("B", "B"), block("B", "B")])
         self.assertTrue(right)

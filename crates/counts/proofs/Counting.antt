@@ -6,7 +6,7 @@
 use Prim.Native.Nat.{ℕ, _+_, _^_, _≤_, _<_}
 use mathlib.Core.Path.{_≡_, refl, sym, ap, _∙_}
 use mathlib.Core.List.{List, [], _∷_}
-use mathlib.Core.Bool.{Bool, true, false, cond}
+use mathlib.Core.Bool.{Bool, true, false, not, _&&_, cond}
 use native.Mathlib.Omega.{arith}
 use native.Mathlib.Nat.{add-zero}
 use lib.ListN.{getD, set}
@@ -64,7 +64,7 @@ pub move-counted : (g : Grid) (seen : List ℕ) (p : Place) (m : MadeStruct) (c�
     → c₁ ≡ counted (wayCount left entered ∷ []) c₀
     → c₂ ≡ counted (count left addedSteps (m .added) ∷ []) c₁
     → c₃ ≡ counted (count left penalised (m .penalties) ∷ []) c₂
-    → c₄ ≡ counted (count entered guideEntries (oneIf outside) ∷ []) c₃
+    → c₄ ≡ counted (count entered guideEntries (oneIf (outside && not taken)) ∷ []) c₃
     → c₅ ≡ counted (count entered shortEntries (oneIf taken) ∷ []) c₄
     → c₅ ≡ counted (moveCounts g (viewBy g seen) (p .vertex) (madeBy g (viewBy g seen) p m)) c₀
 unfolding counted moveCounts madeBy

@@ -1,5 +1,6 @@
 -- The counts of legal moves cost what the moves do.
---     penalty-fair, entering-fair        the price of entering is the base with the penalties that apply
+--     penalty-fair, guide-fair,          a penalty is its price where it is added, and the price of
+--     entering-fair                      entering the base with the penalties that are added
 --     overhead-fair                      an overhead is the price of the added steps and penalised segments
 --     way-worth, made-worth              a step or a via costs the base, and a move what its counts do
 --     move-worth, walk-worth             the counts of a legal move, and of the moves of a join
@@ -7,7 +8,7 @@
 use Prim.Native.Nat.{ℕ, zero, suc, _+_, _*_, _<_}
 use mathlib.Core.Path.{_≡_, refl, ap}
 use mathlib.Core.List.{List, [], _∷_}
-use mathlib.Core.Bool.{Bool, true, false, not, cond}
+use mathlib.Core.Bool.{Bool, true, false, not, _&&_, cond}
 use native.Mathlib.Nat.{le-refl}
 use native.Mathlib.Omega.{arith}
 use lib.ListN.{getD}
@@ -20,7 +21,7 @@ use Rattle.paths.specs.Costs.{Cost, fin, inf, plus}
 use Rattle.rules.specs.Tracks.{layerOf, Entered, outside, at, entered}
 use Rattle.rules.specs.Views.{View}
 use Rattle.rules.specs.Segments.{Kind, along, down, up, kindOf, Place, Grown, back, grown}
-use Rattle.rules.specs.Prices.{Tech, lineOf, charge, penalty, base, guideAt, shortAt, sumCost, entering}
+use Rattle.rules.specs.Prices.{Tech, lineOf, charge, penalty, closing, base, guideAt, shortAt, sumCost, entering}
 use Rattle.rules.specs.Overheads.{Overhead, forbidden, owes, overheadOf}
 use Rattle.rules.specs.Steps.{Made, Stepped, illegal, legal, leaving, stepping, bySegment, ifPriced, into, step, priceOf, priced}
 use Rattle.rules.specs.Walks.{walked, walk, total, walkCost}
@@ -52,6 +53,18 @@ penalty-fair true p = by (eqb p closedPrice)
     by false = omega arith
 penalty-fair false p = omega arith
 
+-- the guide penalty is its price where the vertex is not taken too
+guide-fair : (out taken : Bool) (p : ℕ) → Fair (oneIf (out && not taken) * p) (cond taken (closing (penalty out p)) (penalty out p))
+unfolding Fair oneIf closing penalty
+guide-fair true true p = by (charge p)
+  where
+    by : (c : Cost) → Fair (0 * p) (closing c)
+    by (fin n) = omega arith
+    by inf = tt
+guide-fair true false p = penalty-fair true p
+guide-fair false true p = omega arith
+guide-fair false false p = omega arith
+
 -- a price with two penalties
 with-fair : (b m n : ℕ) (x y : Cost) → Fair m x → Fair n y → Fair (b + (m + n)) (plus b (sumCost x y))
 unfolding Fair sumCost
@@ -61,9 +74,9 @@ with-fair b m n inf y hx hy = tt
 
 -- the price of entering a vertex
 entering-fair : (t : Tech) (view : View) (v w m : ℕ)
-    → Fair (base t v w m + (oneIf (not (view .guided w)) * t .guide + oneIf (view .taken w) * t .short)) (entering t view v w m)
+    → Fair (base t v w m + (oneIf (not (view .guided w) && not (view .taken w)) * t .guide + oneIf (view .taken w) * t .short)) (entering t view v w m)
 unfolding entering guideAt shortAt
-entering-fair t view v w m = with-fair _ _ _ _ _ (penalty-fair (not (view .guided w)) (t .guide)) (penalty-fair (view .taken w) (t .short))
+entering-fair t view v w m = with-fair _ _ _ _ _ (guide-fair (not (view .guided w)) (view .taken w) (t .guide)) (penalty-fair (view .taken w) (t .short))
 
 -- ---- the overhead
 
@@ -124,7 +137,8 @@ module _ {t : Tech} (tech : GoodTech t) where
       nowhere q = let z : _≡_ {A = ℕ} 0 1 = cc in omega arith
 
   module _ (view : View) where
-    -- a move that enters a vertex at its price, and owes what it added and penalised, costs what its counts do
+    -- a move that enters a vertex at its price, and owes what it added and penalised, costs what its
+    -- counts do
     made-worth : {v : ℕ} (m : ℕ) (made : Made) → v < vertices (t .grid) → entered (t .grid) v m ≡ at (made .next .vertex)
         → entering t view v (made .next .vertex) m ≡ fin (made .enter)
         → made .added * lineOf t v .wire + made .penalties * lineOf t v .area ≡ made .over

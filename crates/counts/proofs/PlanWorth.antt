@@ -1,9 +1,10 @@
 -- The counts of a plan that is read as good cost what the plan does.
 --     counts-append                      the counts of two lists of entries
 --     Costs, join-costs, net-costs, nets-costs, plan-costs
---                                        counts have their places and cost the difference of two totals: those
---                                        of a join, of a net, of all nets, and of an accepted plan
---     plan-placed, plan-worth            so an accepted plan's counts have their places, and cost what it does
+--                                        counts have their places and cost the difference of two totals:
+--                                        those of a join, of a net, of all nets, and of an accepted plan
+--     plan-placed, plan-worth            so an accepted plan's counts have their places, and cost what it
+--                                        does
 use Prim.Native.Nat.{ℕ, _+_, _<_}
 use mathlib.Core.Path.{_≡_, refl, ap}
 use mathlib.Core.List.{List, [], _∷_, _++_, append-assoc, flatMap}
@@ -116,8 +117,8 @@ module _ {j : Job} (good-j : GoodJob j) where
   pub plan-placed : (bytes : List ℕ) (r : Routed) → readPlan j bytes ≡ good r → Placed (planCounts j (r .entries))
   plan-placed bytes r e = plan-costs bytes r e .placed
 
--- "counts times that job's prices", a promise to readers of a report: where a good job's plan is accepted, its
--- counts in an empty report, each times its price, come to the plan's cost
+-- "counts times that job's prices", a promise to readers of a report: where a good job's plan is accepted,
+-- its counts in an empty report, each times its price, come to the plan's cost
 pub plan-worth : (j : Job) (bytes : List ℕ) → GoodJob j → (r : Routed) → readPlan j bytes ≡ good r
     → worth (reportPrices (techOf j)) (counted (planCounts j (r .entries)) (replicate reportNeed 0)) ≡ r .totals .cost
 unfolding noTotals

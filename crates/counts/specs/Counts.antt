@@ -7,7 +7,7 @@
 --     countPrices, worth                  what each costs by the job's prices, and all of them
 use Prim.Native.Nat.{ℕ, _+_, _*_}
 use mathlib.Core.List.{List, [], _∷_, _++_, flatMap}
-use mathlib.Core.Bool.{Bool, cond, not}
+use mathlib.Core.Bool.{Bool, cond, not, _&&_}
 use lib.ListN.{getD, set}
 use lib.Dec.{ltb}
 use Rattle.job.specs.Grid.{Grid}
@@ -73,14 +73,16 @@ unfoldable pub wayCount : (left entered : ℕ) → Count
 wayCount left entered =
     cond (ltb left entered) (count left vias 1) (cond (ltb entered left) (count entered vias 1) (count entered steps 1))
 
--- added steps and penalised segments are of the layer left, "guide and short entries (by the layer entered)"
+-- added steps and penalised segments are of the layer left, "guide and short entries (by the layer entered)";
+-- where a vertex is both outside the guide and taken, "such an entry" counts "as a short entry only"
 unfoldable pub moveCounts : Grid → View → (from : ℕ) → Made → List Count
 moveCounts g view v made =
     let w = made .next .vertex in
     let left = layerOf g v in
     let entered = layerOf g w in
     wayCount left entered ∷ count left addedSteps (made .added) ∷ count left penalised (made .penalties)
-    ∷ count entered guideEntries (oneIf (not (view .guided w))) ∷ count entered shortEntries (oneIf (view .taken w)) ∷ []
+    ∷ count entered guideEntries (oneIf (not (view .guided w) && not (view .taken w)))
+    ∷ count entered shortEntries (oneIf (view .taken w)) ∷ []
 
 -- of moves from a vertex, one after the other
 unfoldable pub walkCounts : Grid → View → (from : ℕ) → List Made → List Count

@@ -88,7 +88,8 @@ pub fn count_move(
     count_way(counts, left, entered);
     add_count(counts, left, ADDED, made.added);
     add_count(counts, left, PENALISED, made.penalties);
-    count_if(counts, entered, GUIDE, has(seen, into, OUTSIDE));
-    count_if(counts, entered, SHORT, has(seen, into, TAKEN));
+    let taken = has(seen, into, TAKEN);
+    count_if(counts, entered, GUIDE, has(seen, into, OUTSIDE) & !taken);
+    count_if(counts, entered, SHORT, taken);
     entered
 }

@@ -32,7 +32,7 @@ pub struct Cheapest {
 // The record of what a search found, from a bit of the plan on.
 pub fn write_join(
     tech: Tech,
-    prices: &[usize; 48],
+    prices: &[usize; 40],
     seen: &[u8; 16384],
     spots: &mut [u8; 16384],
     map: &mut [u16],

@@ -34,7 +34,7 @@ use walker::NetAtHand;
 // Where the join that a search found starts, by the leads in the work slice; any vertex where it found none.
 fn retrace_found(
     tech: Tech,
-    prices: &[usize; 48],
+    prices: &[usize; 40],
     seen: &[u8; 16384],
     spots: &[u8; 16384],
     bounds: &[u64; 528],
@@ -60,7 +60,7 @@ fn retrace_found(
 // The needed part of the work slice is lent zero, and left so.
 pub fn next_join(
     tech: Tech,
-    prices: &[usize; 48],
+    prices: &[usize; 40],
     seen: &[u8; 16384],
     spots: &mut [u8; 16384],
     map: &mut [u16],

@@ -29,7 +29,7 @@ pub fn ends_at(spots: &[u8; 16384], vertex: usize) -> bool
 // How many moves the route has.
 pub fn count_moves(
     tech: Tech,
-    prices: &[usize; 48],
+    prices: &[usize; 40],
     seen: &[u8; 16384],
     spots: &[u8; 16384],
     work: &[u64],

@@ -34,7 +34,7 @@ pub struct Route {
 
 pub fn write_moves(
     tech: Tech,
-    prices: &[usize; 48],
+    prices: &[usize; 40],
     seen: &[u8; 16384],
     spots: &mut [u8; 16384],
     map: &mut [u16],

@@ -1,7 +1,7 @@
 -- The least costs to go in the marked jobs: for each job a table for each of its joins, in order. A table has
 -- a row for each vertex in the order of their numbers, and the row an entry for each segment: fresh, running
 -- low and high by length, paid, paid toward low and toward high. 0 is infinite, and n + 1 is the cost n.
---     costsA .. costsL     the tables of each job
+--     costsA .. costsN     the tables of each job
 use Prim.Native.Nat.{ℕ}
 use mathlib.Core.List.{List, [], _∷_}
 
@@ -841,6 +841,35 @@ costsL =
     ∷ (0 ∷ 0 ∷ 0 ∷ 0 ∷ 0 ∷ 0 ∷ 0 ∷ 0 ∷ [])
     ∷ (53 ∷ 53 ∷ 53 ∷ 53 ∷ 53 ∷ 3 ∷ 3 ∷ 3 ∷ [])
     ∷ (0 ∷ 0 ∷ 0 ∷ 0 ∷ 0 ∷ 0 ∷ 0 ∷ 0 ∷ [])
+    ∷ (0 ∷ 0 ∷ 0 ∷ 0 ∷ 0 ∷ 0 ∷ 0 ∷ 0 ∷ [])
+    ∷ (0 ∷ 0 ∷ 0 ∷ 0 ∷ 0 ∷ 0 ∷ 0 ∷ 0 ∷ [])
+    ∷ (1 ∷ 1 ∷ 1 ∷ 1 ∷ 1 ∷ 1 ∷ 1 ∷ 1 ∷ [])
+    ∷ (0 ∷ 0 ∷ 0 ∷ 0 ∷ 0 ∷ 0 ∷ 0 ∷ 0 ∷ [])
+    ∷ (0 ∷ 0 ∷ 0 ∷ 0 ∷ 0 ∷ 0 ∷ 0 ∷ 0 ∷ [])
+    ∷ []) ∷ []
+
+unfoldable pub costsN : List (List (List ℕ))
+costsN =
+    ((55 ∷ 55 ∷ 55 ∷ 55 ∷ 55 ∷ 5 ∷ 5 ∷ 5 ∷ [])
+    ∷ (54 ∷ 54 ∷ 54 ∷ 54 ∷ 54 ∷ 4 ∷ 4 ∷ 4 ∷ [])
+    ∷ (53 ∷ 53 ∷ 53 ∷ 53 ∷ 53 ∷ 3 ∷ 3 ∷ 3 ∷ [])
+    ∷ (54 ∷ 54 ∷ 54 ∷ 54 ∷ 54 ∷ 4 ∷ 4 ∷ 4 ∷ [])
+    ∷ (3 ∷ 59 ∷ 3 ∷ 58 ∷ 3 ∷ 3 ∷ 57 ∷ 3 ∷ [])
+    ∷ (2 ∷ 59 ∷ 2 ∷ 58 ∷ 2 ∷ 2 ∷ 58 ∷ 2 ∷ [])
+    ∷ (1 ∷ 1 ∷ 1 ∷ 1 ∷ 1 ∷ 1 ∷ 1 ∷ 1 ∷ [])
+    ∷ (2 ∷ 2 ∷ 58 ∷ 2 ∷ 57 ∷ 2 ∷ 2 ∷ 56 ∷ [])
+    ∷ (55 ∷ 55 ∷ 55 ∷ 55 ∷ 55 ∷ 5 ∷ 5 ∷ 5 ∷ [])
+    ∷ (54 ∷ 54 ∷ 54 ∷ 54 ∷ 54 ∷ 4 ∷ 4 ∷ 4 ∷ [])
+    ∷ (53 ∷ 53 ∷ 53 ∷ 53 ∷ 53 ∷ 3 ∷ 3 ∷ 3 ∷ [])
+    ∷ (54 ∷ 54 ∷ 54 ∷ 54 ∷ 54 ∷ 4 ∷ 4 ∷ 4 ∷ [])
+    ∷ [])
+    ∷ ((0 ∷ 0 ∷ 0 ∷ 0 ∷ 0 ∷ 0 ∷ 0 ∷ 0 ∷ [])
+    ∷ (135 ∷ 135 ∷ 135 ∷ 135 ∷ 135 ∷ 85 ∷ 85 ∷ 85 ∷ [])
+    ∷ (0 ∷ 0 ∷ 0 ∷ 0 ∷ 0 ∷ 0 ∷ 0 ∷ 0 ∷ [])
+    ∷ (0 ∷ 0 ∷ 0 ∷ 0 ∷ 0 ∷ 0 ∷ 0 ∷ 0 ∷ [])
+    ∷ (84 ∷ 0 ∷ 84 ∷ 0 ∷ 34 ∷ 34 ∷ 0 ∷ 34 ∷ [])
+    ∷ (63 ∷ 63 ∷ 63 ∷ 63 ∷ 63 ∷ 13 ∷ 13 ∷ 13 ∷ [])
+    ∷ (84 ∷ 84 ∷ 0 ∷ 34 ∷ 0 ∷ 34 ∷ 34 ∷ 0 ∷ [])
     ∷ (0 ∷ 0 ∷ 0 ∷ 0 ∷ 0 ∷ 0 ∷ 0 ∷ 0 ∷ [])
     ∷ (0 ∷ 0 ∷ 0 ∷ 0 ∷ 0 ∷ 0 ∷ 0 ∷ 0 ∷ [])
     ∷ (1 ∷ 1 ∷ 1 ∷ 1 ∷ 1 ∷ 1 ∷ 1 ∷ 1 ∷ [])

@@ -17,7 +17,7 @@ use Rattle.paths.specs.Starts.{orNext, best, startCost}
 use Rattle.rules.specs.Tracks.{layerOf, rowOf, columnOf, trackIndex, trackLength, ifThere, entered}
 use Rattle.rules.specs.Views.{member, othersHold, inBox, inGuide, pinsOf, boxesOf, viewOf}
 use Rattle.rules.specs.Segments.{opposite, kindOf, against, ofLength, notAgainst, grow}
-use Rattle.rules.specs.Prices.{techOf, lineOf, charge, penalty, base, guideAt, shortAt, sumCost, entering}
+use Rattle.rules.specs.Prices.{techOf, lineOf, charge, penalty, closing, base, guideAt, shortAt, sumCost, entering}
 use Rattle.rules.specs.Overheads.{clear, toward, onFrom, clearRun, backFrom, firstOf, bothEnds, otherwise, lengthenedBy, tooShort, overheadOf}
 use Rattle.rules.specs.Steps.{leaving, stepping, bySegment, ifPriced, into, step, priced}
 use Rattle.rules.specs.Walks.{startAt, after, goOn, walk}
@@ -27,9 +27,9 @@ use Rattle.rules.specs.Tabled.{joinFrom, joinBy}
 use Rattle.rules.specs.Places.{segmentCode, entryCost}
 use Rattle.rules.proofs.Certificates.{tableCost, withinTest, settledTest, supportedTest, movesTest, placeTest, allBelow, allSegments, certified}
 use Rattle.plan.specs.Layout.{recordBits, planBytes}
-use Rattle.marked.specs.Table.{viaBelow, plainLines, plainJob, pin, Row, rowA, rowB, rowC, rowD, rowE, rowF, rowG, rowH, rowI, rowJ, rowK, rowL, rows}
+use Rattle.marked.specs.Table.{viaBelow, plainLines, plainJob, pin, Row, rowA, rowB, rowC, rowD, rowE, rowF, rowG, rowH, rowI, rowJ, rowK, rowL, rowN, rows}
 use Rattle.marked.specs.Table.{IsEdge, largestGrid, largerGrid, leastM, noM, edges}
-use Rattle.marked.proofs.Costs.{costsA, costsB, costsC, costsD, costsE, costsF, costsG, costsH, costsI, costsJ, costsK, costsL}
+use Rattle.marked.proofs.Costs.{costsA, costsB, costsC, costsD, costsE, costsF, costsG, costsH, costsI, costsJ, costsK, costsL, costsN}
 use Rattle.marked.proofs.Checking.{Costs, right, withRecords, afterMoves, afterRecord, byTable, netBy, thenNets, netsBy, answerOf, written}
 
 -- the bytes of a row are read as its job
@@ -38,12 +38,12 @@ IsRead row = readJob (row .bytes) ≡ good (row .job)
 
 -- "Job in hex": the bytes of each row are read as its job; and those of each edge as it says
 pub job-of-bytes : All IsRead rows × All IsEdge edges
-unfolding All rows rowA rowB rowC rowD rowE rowF rowG rowH rowI rowJ rowK rowL edges largestGrid largerGrid leastM noM viaBelow plainLines plainJob pin
+unfolding All rows rowA rowB rowC rowD rowE rowF rowG rowH rowI rowJ rowK rowL rowN edges largestGrid largerGrid leastM noM viaBelow plainLines plainJob pin
     fieldBits number bitsOf field whole any all vertices inside same covered runHigh nextHigh stepsColumn onObstacle _>>=_ _>>_ rule readMany headAt readHead
     layerAt viaRule readLayer vertexAt readPin readPins boxAt goodSpan goodBox readBox readNet netWidth readNets netsWidth readTail obstaclesAt
     netsAt readAfterHead readBits readJob
 job-of-bytes = (
-  (refl, (refl, (refl, (refl, (refl, (refl, (refl, (refl, (refl, (refl, (refl, (refl, tt)))))))))))),
+  (refl, (refl, (refl, (refl, (refl, (refl, (refl, (refl, (refl, (refl, (refl, (refl, (refl, tt))))))))))))),
   (refl, (refl, (refl, (refl, tt)))),
 )
 
@@ -54,18 +54,18 @@ IsWritten row = (costs : List Costs) × (written (row .job) costs ≡ right (row
 
 -- each row's records come out
 pub records-of-job : All IsWritten rows
-unfolding All rows rowA rowB rowC rowD rowE rowF rowG rowH rowI rowJ rowK rowL
-    costsA costsB costsC costsD costsE costsF costsG costsH costsI costsJ costsK costsL
+unfolding All rows rowA rowB rowC rowD rowE rowF rowG rowH rowI rowJ rowK rowL rowN
+    costsA costsB costsC costsD costsE costsF costsG costsH costsI costsJ costsK costsL costsN
     viaBelow plainLines plainJob pin
     any all vertices vertexNumber same stepsColumn covered onObstacle largestMinLength strideOf
     isCost onward keeps lowestFrom lowestKeeping moveOn follow orNext best startCost
     layerOf rowOf columnOf trackIndex trackLength ifThere entered member othersHold inBox inGuide pinsOf boxesOf viewOf
-    opposite kindOf against ofLength notAgainst grow techOf lineOf charge penalty base guideAt shortAt sumCost entering
+    opposite kindOf against ofLength notAgainst grow techOf lineOf charge penalty closing base guideAt shortAt sumCost entering
     clear toward onFrom clearRun backFrom firstOf bothEnds otherwise lengthenedBy tooShort overheadOf leaving stepping bySegment ifPriced into step priced
     startAt after goOn walk flatMap metalAtFirst begun without more joinedBy places joinFrom joinBy segmentCode
     entryCost tableCost withinTest settledTest supportedTest movesTest placeTest allBelow allSegments certified
     withRecords afterMoves afterRecord byTable netBy thenNets netsBy answerOf written
-records-of-job = ((costsA, refl), ((costsB, refl), ((costsC, refl), ((costsD, refl), ((costsE, refl), ((costsF, refl), ((costsG, refl), ((costsH, refl), ((costsI, refl), ((costsJ, refl), ((costsK, refl), ((costsL, refl), tt))))))))))))
+records-of-job = ((costsA, refl), ((costsB, refl), ((costsC, refl), ((costsD, refl), ((costsE, refl), ((costsF, refl), ((costsG, refl), ((costsH, refl), ((costsI, refl), ((costsJ, refl), ((costsK, refl), ((costsL, refl), ((costsN, refl), tt)))))))))))))
 
 -- "the program writes `80 00 00 00 03 54 00 00 00 00 0C`": the bytes of A's plan
 pub plan-of-A : planBytes (rowA .job .grid) (rowA .records) ≡ 0x80 ∷ 0x00 ∷ 0x00 ∷ 0x00 ∷ 0x03 ∷ 0x54 ∷ 0x00 ∷ 0x00 ∷ 0x00 ∷ 0x00 ∷ 0x0C ∷ []

@@ -22,7 +22,7 @@ unfolding All
 rows-right [] read written = tt
 rows-right (row ∷ rs) read written = (row-right row (read .0) (written .0), rows-right rs (read .1) (written .1))
 
--- "All twelve are marked.": each job is read from its bytes, and routing it writes the records of its row;
+-- the thirteen: each job is read from its bytes, and routing it writes the records of its row;
 -- and each edge is read as it says
 pub marked : Marked
 marked = record { routes = rows-right rows (job-of-bytes .0) records-of-job; edges = job-of-bytes .1 }

@@ -1,10 +1,10 @@
--- The marked routes: twelve jobs by their bytes, what they hold, and the records that routing them writes;
+-- The marked routes: thirteen jobs by their bytes, what they hold, and the records that routing them writes;
 -- and the edges: four jobs by their bytes, and what reading them gives.
 -- Specification: section 9.
 --     plainLines, plainJob         the plain job with its sizes, M, prices and nets changed
 --     Row                          a job's bytes, the job, and its records net by net
 --     Right                        what is claimed of a row
---     rowA .. rowL, rows           the twelve
+--     rowA .. rowL, rowN, rows     the thirteen
 --     Edge                         a job's bytes, and what reading them gives
 --     IsEdge                       what is claimed of an edge
 --     largestGrid .. noM, edges    the four
@@ -151,9 +151,17 @@ rowL = record {
   records = join 4 (1 ∷ 1 ∷ []) 2 ∷ none ∷ [];
 }
 
--- "All twelve are marked."
+-- "Route K with a box over layer 0 for net 2": 2, then 84. M is the minimum length and no row.
+unfoldable pub rowN : Row
+rowN = record {
+  bytes = 0x12 ∷ 0x00 ∷ 0x03 ∷ 0x00 ∷ 0x0A ∷ 0x00 ∷ 0x14 ∷ 0x02 ∷ 0x00 ∷ 0x00 ∷ 0x00 ∷ 0x40 ∷ 0x23 ∷ 0x00 ∷ 0x32 ∷ 0x00 ∷ 0x40 ∷ 0x23 ∷ 0x00 ∷ 0x32 ∷ 0x00 ∷ 0x40 ∷ 0x03 ∷ 0x00 ∷ 0x32 ∷ 0x10 ∷ 0x20 ∷ 0x00 ∷ 0x04 ∷ 0x08 ∷ 0x00 ∷ 0x44 ∷ 0x00 ∷ 0x80 ∷ 0x20 ∷ 0x10 ∷ 0x00 ∷ 0x00 ∷ 0x00 ∷ 0xC0 ∷ 0x00 ∷ 0x00 ∷ [];
+  job = plainJob 3 1 4 3 50 20 (record { pins = pin 1 0 0 ∷ pin 1 2 0 ∷ []; boxes = [] } ∷ record { pins = pin 0 1 0 ∷ pin 2 1 0 ∷ []; boxes = record { layerLow = 0; layerHigh = 0; rowLow = 0; rowHigh = 3; columnLow = 0; columnHigh = 0 } ∷ [] } ∷ []);
+  records = join 4 (1 ∷ 1 ∷ []) 2 ∷ join 1 (3 ∷ 3 ∷ []) 84 ∷ [];
+}
+
+-- "All twelve are marked.", and with them the thirteenth
 unfoldable pub rows : List Row
-rows = rowA ∷ rowB ∷ rowC ∷ rowD ∷ rowE ∷ rowF ∷ rowG ∷ rowH ∷ rowI ∷ rowJ ∷ rowK ∷ rowL ∷ []
+rows = rowA ∷ rowB ∷ rowC ∷ rowD ∷ rowE ∷ rowF ∷ rowG ∷ rowH ∷ rowI ∷ rowJ ∷ rowK ∷ rowL ∷ rowN ∷ []
 
 pub record Edge : Type 0 where
   pub bytes : List ℕ

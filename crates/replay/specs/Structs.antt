@@ -80,8 +80,8 @@ unfoldable pub MovesFit : MovesRead → Type 0
 MovesFit (MovesRead.Refused n p) = Unit
 MovesFit (MovesRead.Walked w) = WalkFits w
 
--- the counts with those of the moves, each at most 2^22 for each bit of the plan that was read: a move has two,
--- and five counts below 2^20
+-- the counts with those of the moves, each at most 2^22 for each bit of the plan that was read: a move has
+-- two, and five counts below 2^20
 unfoldable pub CountedMoves : Grid → View → (start : ℕ) → Came Gone → (at : ℕ) → (before after : List ℕ) → Type 0
 CountedMoves g view start (stopped n p arrays) at before after = Unit
 CountedMoves g view start (came gone arrays) at before after =

@@ -46,7 +46,7 @@ pub fn end_join(plan: &[u8], at: usize, moves: MovesRead) -> JoinRead
 
 pub fn read_join(
     tech: Tech,
-    prices: &[usize; 48],
+    prices: &[usize; 40],
     seen: &[u8; 16384],
     spots: &mut [u8; 16384],
     map: &mut [u16],

@@ -22,7 +22,7 @@ pub enum Judged {
 // A move is legal, and it enters an unjoined pin just where it is the last.
 pub fn judge_move(
     tech: Tech,
-    prices: &[usize; 48],
+    prices: &[usize; 40],
     seen: &[u8; 16384],
     spots: &[u8; 16384],
     plan: &[u8],

@@ -28,7 +28,7 @@ pub enum MovesRead {
 
 pub fn read_moves(
     tech: Tech,
-    prices: &[usize; 48],
+    prices: &[usize; 40],
     seen: &[u8; 16384],
     spots: &mut [u8; 16384],
     map: &mut [u16],

@@ -52,7 +52,7 @@ pub fn read_flag(plan: &[u8], at: usize) -> Flag
 // Joins until every pin is joined, or a record that says none.
 pub fn read_records(
     tech: Tech,
-    prices: &[usize; 48],
+    prices: &[usize; 40],
     seen: &[u8; 16384],
     spots: &mut [u8; 16384],
     map: &mut [u16],

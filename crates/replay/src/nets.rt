@@ -32,7 +32,7 @@ use walker::NetAtHand;
 // A net's tree starts as its first pin.
 pub fn read_net(
     tech: Tech,
-    prices: &[usize; 48],
+    prices: &[usize; 40],
     seen: &[u8; 16384],
     map: &mut [u16],
     counts: &mut [usize; 48],
@@ -100,7 +100,7 @@ pub fn read_nets(
     let mut totals = no_totals();
     let mut net: u16 = 0;
     let mut left = nets;
-    let mut prices: [usize; 48] = [0; 48];
+    let mut prices: [usize; 40] = [0; 40];
     fill_prices(&mut prices, tech);
     while 0 < left {
         let loaded = load_net(s, tech.grid, position, &mut pins, &mut boxes);

@@ -23,6 +23,6 @@ RowRoutes row =
     (map work plan : List ℕ) → vertices (row .job .grid) ≤ length map → workNeed (row .job) ≤ length work → length (rowPlan row) ≤ length plan
     → (routingOf (row .bytes) map work plan .result .refusal ≡ 0) × (planIn (routingOf (row .bytes) map work plan) ≡ rowPlan row)
 
--- "All twelve are marked."
+-- all rows of the table
 abbrev pub MarkedRouting : Type 0
 MarkedRouting = All RowRoutes rows

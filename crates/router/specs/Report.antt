@@ -48,8 +48,8 @@ unfoldable pub countsOf : Read (List Count) → List Count
 countsOf (refused n p) = []
 countsOf (good counts) = counts
 
--- "the report is left as it was before that plan, map and work as after replay. Otherwise the call returns and
--- leaves what replay does."
+-- "the report is left as it was before that plan, map and work as after replay. Otherwise the call returns
+-- and leaves what replay does."
 unfoldable pub reportOf : (bytes plan map work report : List ℕ) → ReportOutcome
 reportOf bytes plan map work report =
     let replayed = replayOf bytes plan map work in

@@ -26,7 +26,7 @@ use walker::NetAtHand;
 // Joins until every pin is joined, or a record that says none.
 pub fn route_records(
     tech: Tech,
-    prices: &[usize; 48],
+    prices: &[usize; 40],
     seen: &[u8; 16384],
     spots: &mut [u8; 16384],
     map: &mut [u16],
@@ -79,7 +79,7 @@ pub fn route_records(
 // A net's tree starts as its first pin.
 pub fn route_net(
     tech: Tech,
-    prices: &[usize; 48],
+    prices: &[usize; 40],
     seen: &[u8; 16384],
     map: &mut [u16],
     work: &mut [u64],

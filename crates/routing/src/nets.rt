@@ -43,7 +43,7 @@ pub fn route_nets(
     };
     let mut net: u16 = 0;
     let mut left = nets;
-    let mut prices: [usize; 48] = [0; 48];
+    let mut prices: [usize; 40] = [0; 40];
     fill_prices(&mut prices, tech);
     while 0 < left {
         let loaded = load_net(s, tech.grid, position, &mut pins, &mut boxes);

@@ -32,7 +32,7 @@ use Rattle.rules.specs.Walks.{system, startAt, Rival, Route}
 use Rattle.rules.specs.Apart.{Apart}
 use Rattle.rules.specs.Joins.{Record, join, none, IsJoin, first, noRoute, places, recordOf, foundFrom, joinOf}
 use Rattle.rules.specs.Tabled.{starts, joinFrom, joinBy}
-use Rattle.rules.specs.Places.{placeCode, GoodPlace, GoodTech}
+use Rattle.rules.specs.Places.{placeCode, GoodPlace, GoodTech, dearestMove}
 use Rattle.rules.proofs.Places.{start-good, places-small}
 use Rattle.rules.proofs.Lawful.{lawful, costs-small}
 
@@ -99,7 +99,7 @@ module _ {t : Tech} (good : GoodTech t) (view : View) {tree unjoined : List ℕ}
   X = starts t view tree unjoined
 
   -- the laws of cheapest walks hold
-  laws : Lawful S (GoodPlace t) (placeCode t) (places t) 197625
+  laws : Lawful S (GoodPlace t) (placeCode t) (places t) dearestMove
   laws = lawful view unjoined good
 
   -- a start is a good place and no goal
@@ -192,4 +192,4 @@ module _ {t : Tech} (good : GoodTech t) (view : View) {tree unjoined : List ℕ}
       let few : length ms ≤ places t = omega arith in
       let ok = start-good (apart .onGrid s (route .onTree)) in
       let cost = route-cost laws ok (route .walks) in
-      (omega (arith, places-small good), omega (arith, cost, mul-le-mul-left 197625 few, costs-small good))
+      (omega (arith, places-small good), omega (arith, cost, mul-le-mul-left dearestMove few, costs-small good))

@@ -10,12 +10,12 @@ use Rattle.rules.specs.Views.{View}
 use Rattle.rules.specs.Prices.{Tech}
 use Rattle.rules.specs.Walks.{system}
 use Rattle.rules.specs.Joins.{places}
-use Rattle.rules.specs.Places.{placeCode, GoodPlace, GoodTech}
+use Rattle.rules.specs.Places.{placeCode, GoodPlace, GoodTech, dearestMove}
 use Rattle.rules.proofs.Places.{code-below, code-apart, places-small}
 use Rattle.rules.proofs.Moves.{step-keeps, step-costs, step-limits}
 
 -- good places by their codes, and priced moves between them
-pub lawful : {t : Tech} (view : View) (unjoined : List ℕ) → GoodTech t → Lawful (system t view unjoined) (GoodPlace t) (placeCode t) (places t) 197625
+pub lawful : {t : Tech} (view : View) (unjoined : List ℕ) → GoodTech t → Lawful (system t view unjoined) (GoodPlace t) (placeCode t) (places t) dearestMove
 lawful {t} view unjoined good =
     record {
       keeps = λ {s} {m = m} h l. step-keeps view s m good h (l .leads);
@@ -26,5 +26,5 @@ lawful {t} view unjoined good =
     }
 
 -- so many moves as there are places cost less than 2^40
-pub costs-small : {t : Tech} → GoodTech t → 197625 * places t < 2 ^ 40
-costs-small {t} good = lt-of-le-of-lt (mul-le-mul (le-refl 197625) (places-small good)) (omega arith)
+pub costs-small : {t : Tech} → GoodTech t → dearestMove * places t < 2 ^ 40
+costs-small {t} good = lt-of-le-of-lt (mul-le-mul (le-refl dearestMove) (places-small good)) (omega arith)

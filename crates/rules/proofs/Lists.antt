@@ -3,23 +3,20 @@
 --     sets-before, sets-at                    numbers put in a row: the places before it, and its own
 --     LinesSoFar, lines-none, lines-turn      the first n layers have their lines
 --     lines-all                               all layers have them
---     flagNumber, flags-turn                  a byte of flags has its two penalties
---     flags-all, flags-kept                   all bytes have them, and the lines are as they were
+--     flags-all, flags-kept                   all bytes have their penalty, and the lines are as they were
 --     prices-filled                           with both the list holds a job's prices
-use Prim.Native.Nat.{ℕ, zero, suc, _+_, _*_, _/_, _%_, _≤_, _<_}
+use Prim.Native.Nat.{ℕ, zero, suc, _+_, _*_, _≤_, _<_}
 use mathlib.Core.Path.{_≡_, refl, sym, ap, subst, _∙_}
 use mathlib.Core.List.{List, [], _∷_}
-use mathlib.Core.Bool.{cond}
 use native.Mathlib.Decide.{decLt}
 use native.Mathlib.Nat.{not-suc-le-zero, le-of-suc-le-suc}
 use native.Mathlib.Omega.{arith}
-use lib.Dec.{eqb}
 use lib.ListN.{length, getD, set, length-set}
 use lib.Seq.{sets, length-sets, getD-set-same, getD-set-other}
 use Rattle.job.specs.declared.groups.Layer.{Layer as LayerStruct}
 use Rattle.job.specs.declared.layers.Layers.{Layers}
 use Rattle.rules.specs.Structs.{lineAt, TechFits, techBy}
-use Rattle.rules.specs.PriceLists.{lineIn, guideField, shortField, Priced}
+use Rattle.rules.specs.PriceLists.{lineIn, extraField, Priced}
 use Rattle.rules.specs.Lists.{lineNumbers, LinesTo, FlagsTo, SameLines}
 use Rattle.rules.specs.declared.price.Tech.{Tech as TechStruct}
 use Rattle.rules.proofs.Fitting.{fits}
@@ -134,50 +131,16 @@ module _ (ls : Layers) (found : List ℕ) where
 
 -- ---- the flags
 
-module _ (guide short : ℕ) where
-  -- the number at a place of the flags: for each byte the guide penalty, then the short penalty
-  unfoldable pub flagNumber : (place : ℕ) → ℕ
-  flagNumber k = cond (eqb (k % 2) 0) (guideField guide (k / 2)) (shortField short (k / 2))
+module _ (guide short : ℕ) {found prices : List ℕ} where
+  -- all bytes
+  pub flags-all : {n : ℕ} → Filled (extraField guide short) 32 found prices n → 8 ≤ n → FlagsTo prices guide short 8
+  unfolding FlagsTo
+  flags-all all done byte h = all .done byte (omega (arith, done, h))
 
-  -- the guide penalty of a byte
-  guide-number : (byte : ℕ) → flagNumber (2 * byte) ≡ guideField guide byte
-  unfolding flagNumber
-  guide-number byte =
-      let even : 2 * byte % 2 ≡ 0 = omega arith in
-      let half : 2 * byte / 2 ≡ byte = omega arith in
-      rw (even, half) refl
-
-  -- its short penalty
-  short-number : (byte : ℕ) → flagNumber (2 * byte + 1) ≡ shortField short byte
-  unfolding flagNumber
-  short-number byte =
-      let odd : (2 * byte + 1) % 2 ≡ 1 = omega arith in
-      let half : (2 * byte + 1) / 2 ≡ byte = omega arith in
-      rw (odd, half) refl
-
-  module _ {found prices : List ℕ} where
-    -- the next byte's two penalties
-    pub flags-turn : {byte g s : ℕ} → Filled flagNumber 32 found prices (2 * byte) → 48 ≤ length found → byte < 8 → g ≡ guideField guide byte
-        → s ≡ shortField short byte → Filled flagNumber 32 found (set (set prices (32 + 2 * byte) g) (33 + 2 * byte) s) (2 * (byte + 1))
-    flags-turn {byte} so-far room h isGuide isShort =
-        let first = filled-turn flagNumber 32 found {at = 32 + 2 * byte} so-far refl (omega arith) (isGuide ∙ sym (guide-number byte)) in
-        let second = filled-turn flagNumber 32 found {at = 33 + 2 * byte} first (omega arith) (omega arith) (isShort ∙ sym (short-number byte)) in
-        let next : 2 * byte + 1 + 1 ≡ 2 * (byte + 1) = omega arith in
-        rw next at second
-
-    -- all bytes
-    pub flags-all : {n : ℕ} → Filled flagNumber 32 found prices (2 * n) → 8 ≤ n → FlagsTo prices guide short 8
-    unfolding FlagsTo
-    flags-all all done byte h =
-        let place : 33 + 2 * byte ≡ 32 + (2 * byte + 1) = omega arith in (
-          all .done (2 * byte) (omega (arith, done, h)) ∙ guide-number byte,
-          ap (λ (k : ℕ). getD prices k 0) place ∙ all .done (2 * byte + 1) (omega (arith, done, h)) ∙ short-number byte,
-        )
-
-    -- and the lines are as they were
-    pub flags-kept : {n : ℕ} → Filled flagNumber 32 found prices n → SameLines prices found
-    unfolding SameLines
-    flags-kept all k h = all .kept k h
+  -- and the lines are as they were
+  pub flags-kept : {n : ℕ} → Filled (extraField guide short) 32 found prices n → SameLines prices found
+  unfolding SameLines
+  flags-kept all k h = all .kept k h
 
 -- ---- both
 
@@ -190,6 +153,5 @@ prices-filled {t} first prices tech lines same flags =
       lines = λ v on.
           let layer = fits _ _ (on-grid tech on) .layer in
           line-same prices first _ (λ k b. same k (omega (arith, layer, b))) ∙ lines _ layer ∙ line-held tech on;
-      guides = λ byte h. flags byte h .0;
-      shorts = λ byte h. flags byte h .1;
+      extras = flags;
     }

@@ -1,9 +1,9 @@
--- A legal move leads from a good place to another, at a price from 1 to 197,625.
+-- A legal move leads from a good place to another, at a price from 1 to 132,091.
 --     Went, step-parts     the vertex that a legal move enters, the price of entering it, and what the
 --                          segment makes of it
 --     step-keeps           the next place is good
 --     step-costs           a move costs at least 1
---     step-limits          a move costs at most 197,625
+--     step-limits          a move costs at most 132,091
 --     step-penalties       it penalises at most one segment
 use Prim.Native.Nat.{ℕ, _≤_}
 use mathlib.Core.Path.{_≡_, refl}
@@ -17,7 +17,7 @@ use Rattle.rules.specs.Segments.{Kind, along, down, up, kindOf, Place, G
 use Rattle.rules.specs.Prices.{Tech, entering}
 use Rattle.rules.specs.Overheads.{overheadOf}
 use Rattle.rules.specs.Steps.{Made, Stepped, illegal, legal, leaving, stepping, bySegment, ifPriced, into, step, priced}
-use Rattle.rules.specs.Places.{GoodPlace, GoodTech}
+use Rattle.rules.specs.Places.{GoodPlace, GoodTech, dearestMove}
 use Rattle.rules.proofs.Neighbours.{entered-below}
 use Rattle.rules.proofs.Overheads.{overhead-holds}
 use Rattle.rules.proofs.Segments.{no-step, move-led}
@@ -64,9 +64,9 @@ step-keeps {t} view p m good h e =
     let l = move-led view p (kindOf m) (went .vertex) (went .enter) good (h .vertex) (went .does) in
     record { vertex = rw (l .vertex) (entered-below (t .grid) m (h .vertex) (went .enters)); segment = l .segment }
 
--- a move costs from 1 to 197,625
+-- a move costs from 1 to 132,091
 step-fits : {t : Tech} (view : View) (p : Place) (m : ℕ) {c : ℕ} {q : Place} → GoodTech t → GoodPlace t p → priced (step t view p m) ≡ to c q
-    → (1 ≤ c) × (c ≤ 197625)
+    → (1 ≤ c) × (c ≤ dearestMove)
 step-fits {t} view p m good h e =
     let went = step-parts t view p m e in
     let l = move-led view p (kindOf m) (went .vertex) (went .enter) good (h .vertex) (went .does) in
@@ -78,9 +78,9 @@ pub step-costs : {t : Tech} (view : View) (p : Place) (m : ℕ) {c : ℕ} {q : P
     → 1 ≤ c
 step-costs view p m good h e = step-fits view p m good h e .0
 
--- a move costs at most 197,625
+-- a move costs at most 132,091
 pub step-limits : {t : Tech} (view : View) (p : Place) (m : ℕ) {c : ℕ} {q : Place} → GoodTech t → GoodPlace t p → priced (step t view p m) ≡ to c q
-    → c ≤ 197625
+    → c ≤ dearestMove
 step-limits view p m good h e = step-fits view p m good h e .1
 
 -- at most one segment is penalised

@@ -3,16 +3,16 @@
 --     base-told, above-first       the wire price or the via price; a via down leaves no lowest layer
 --     charged                      a penalty that the code has read
 --     extra-told                   what a byte of flags adds: closed where the vertex is blocked
---     extra-small                  its two penalties fit their fields
 --     entry-outside, entry-shut    a move that enters no vertex
 --     into-below, base-asked       the vertex that is entered, and the line that prices the move
 --     entry-open, entry-fits       the entry with its price, which fits a word
-use Prim.Native.Nat.{ℕ, zero, suc, _+_, _-_, _*_, _/_, _%_, _≤_, _<_}
+use Prim.Native.Nat.{ℕ, zero, suc, _+_, _-_, _/_, _%_, _≤_, _<_}
 use mathlib.Core.Path.{_≡_, refl, sym, ap, _∙_}
 use mathlib.Core.List.{List}
-use mathlib.Core.Bool.{Bool, true, false, not, cond}
+use mathlib.Core.Bool.{Bool, true, false, not, _||_, cond}
 use native.Mathlib.Omega.{arith}
 use lib.ListN.{getD}
+use lib.Dec.{eqb}
 use Rattle.job.specs.Grid.{Grid, vertices}
 use Rattle.job.specs.Job.{closedPrice}
 use Rattle.job.specs.Structs.{gridOf, layerStruct, penaltyOf}
@@ -23,15 +23,15 @@ use Rattle.paths.specs.Costs.{Cost, fin, inf, plus}
 use Rattle.rules.specs.Tracks.{layerOf, outside, at, entered}
 use Rattle.rules.specs.Views.{View}
 use Rattle.rules.specs.Segments.{Kind, down, kindOf}
-use Rattle.rules.specs.Prices.{Tech, lineOf, charge, penalty, base, guideAt, shortAt, sumCost, entering}
-use Rattle.rules.specs.PriceLists.{lineIn, baseIn, guideField, shortField, extraIn, SmallExtra, Priced}
+use Rattle.rules.specs.Prices.{Tech, lineOf, charge, penalty, closing, base, guideAt, shortAt, sumCost, entering}
+use Rattle.rules.specs.PriceLists.{lineIn, baseIn, outsideField, extraField, extraIn, Priced}
 use Rattle.rules.specs.Seen.{holds, viewBy}
 use Rattle.rules.specs.Structs.{techBy, TechFits, costOf, seenBy, entryBy, entryAt, entryOf, Here}
 use Rattle.rules.specs.declared.price.Tech.{Tech as TechStruct}
 use Rattle.rules.specs.declared.step.Entry.the-variants.{Shut, Open}
-use Rattle.rules.proofs.Fitting.{either-below, fits as layer-fits}
+use Rattle.rules.proofs.Fitting.{fits as layer-fits}
 use Rattle.rules.proofs.Neighbours.{low-enters, high-enters, down-enters, entered-below}
-use Rattle.rules.proofs.Prices.{entering-fits}
+use Rattle.rules.proofs.Prices.{one-penalty, entering-fits}
 use Rattle.rules.proofs.Held.{seen-blocked, seen-taken, seen-outside, on-grid, from-cost}
 
 -- ---- the lines
@@ -78,65 +78,60 @@ unfolding charge penalty
 charge-if true p = refl
 charge-if false p = refl
 
--- what is added by what is so of a vertex: the penalties that apply, closed where it is blocked
+-- what is added by what is so of a vertex: the penalty that applies, closed where it is blocked
 added : (blocked out taken : Bool) (guide short : ℕ) → Cost
-added blocked out taken guide short = elim blocked [ true ↦ inf | false ↦ sumCost (penalty out guide) (penalty taken short) ]
+added blocked out taken guide short =
+    elim blocked [ true ↦ inf | false ↦ sumCost (cond taken (closing (penalty out guide)) (penalty out guide)) (penalty taken short) ]
 
--- the two fields of a byte charge that
-fields-charge : (blocked out taken : Bool) (guide short : ℕ)
-    → sumCost (charge (cond blocked closedPrice (cond out guide 0))) (charge (cond taken short 0)) ≡ added blocked out taken guide short
-unfolding added sumCost charge
-fields-charge true out taken guide short = refl
-fields-charge false out taken guide short = rw (charge-if out guide, charge-if taken short) refl
+-- the field of a byte charges that
+field-charges : (blocked out taken : Bool) (guide short : ℕ)
+    → charge (cond (blocked || eqb (cond out guide 0) closedPrice) closedPrice (cond taken short (cond out guide 0)))
+    ≡ added blocked out taken guide short
+unfolding added charge
+field-charges true out taken guide short = refl
+field-charges false out taken guide short = rw (one-penalty taken (penalty out guide) short, ← charge-if out guide) (by (eqb field closedPrice) refl taken)
+  where
+    field : ℕ
+    field = cond out guide 0
+
+    by : (closed : Bool) → eqb field closedPrice ≡ closed → (taken : Bool)
+        → charge (cond closed closedPrice (cond taken short field))
+        ≡ elim (cond closed inf (fin field)) [ fin n ↦ cond taken (charge short) (fin n) | inf ↦ inf ]
+    by true e taken = refl
+    by false e true = refl
+    by false e false = rw e refl
 
 -- the flags of a byte are its lowest three bits, which are those of its rest by 8
 flags-rest : (byte : ℕ) → (byte % 8 / 1 % 2 ≡ byte / 1 % 2) × (byte % 8 / 2 % 2 ≡ byte / 2 % 2) × (byte % 8 / 4 % 2 ≡ byte / 4 % 2)
 flags-rest byte = (omega arith, omega arith, omega arith)
 
-module _ {t : Tech} {prices : List ℕ} (priced : Priced t prices) (byte : ℕ) where
-  -- the guide penalty of a byte is in the list
-  guide-in : getD prices (32 + 2 * (byte % 8)) 0 ≡ guideField (t .guide) byte
-  unfolding guideField holds
-  guide-in = priced .guides (byte % 8) (omega arith) ∙ rw (flags-rest byte .0, flags-rest byte .2) refl
+-- the penalty of a byte is in the list
+extra-in : {t : Tech} {prices : List ℕ} → Priced t prices → (byte : ℕ) → getD prices (32 + byte % 8) 0 ≡ extraField (t .guide) (t .short) byte
+unfolding extraField outsideField holds
+extra-in priced byte =
+    priced .extras (byte % 8) (omega arith) ∙ rw (flags-rest byte .0, flags-rest byte .1, flags-rest byte .2) refl
 
-  -- its short penalty
-  short-in : getD prices (32 + 2 * (byte % 8) + 1) 0 ≡ shortField (t .short) byte
-  unfolding shortField holds
-  short-in =
-      let place : 32 + 2 * (byte % 8) + 1 ≡ 33 + 2 * (byte % 8) = omega arith in
-      rw place (priced .shorts (byte % 8) (omega arith) ∙ rw (flags-rest byte .1) refl)
+-- what the byte of a vertex adds: the penalty that applies there, and closed where it is blocked
+pub extra-told : (t : TechStruct) {prices : List ℕ} → Priced (techBy t) prices → (seen : List ℕ) {w : ℕ} → w < vertices (gridOf (t .grid))
+    → extraIn prices (getD seen w 0)
+    ≡ elim (viewBy (gridOf (t .grid)) seen .blocked w) [
+      | true ↦ inf
+      | false ↦ sumCost (guideAt (techBy t) (viewBy (gridOf (t .grid)) seen) w) (shortAt (techBy t) (viewBy (gridOf (t .grid)) seen) w)
+    ]
+unfolding extraIn extraField outsideField guideAt shortAt added
+extra-told t priced seen {w} h =
+    let byte = getD seen w 0 in
+    let is : added (holds 1 byte) (holds 4 byte) (holds 2 byte) (techBy t .guide) (techBy t .short)
+    ≡ added (view .blocked w) (not (view .guided w)) (view .taken w) (techBy t .guide) (techBy t .short) =
+    same-added (sym (seen-blocked _ seen w h)) (sym (seen-outside _ seen w h)) (sym (seen-taken _ seen w h)) in
+    rw (extra-in priced byte) (field-charges (holds 1 byte) (holds 4 byte) (holds 2 byte) (techBy t .guide) (techBy t .short) ∙ is)
+  where
+    view : View
+    view = viewBy (gridOf (t .grid)) seen
 
-module _ {t : TechStruct} {prices : List ℕ} (fits : TechFits t) (priced : Priced (techBy t) prices) where
-  -- the two penalties of a byte fit their fields
-  pub extra-small : (byte : ℕ) → SmallExtra prices byte
-  unfolding guideField shortField
-  extra-small byte =
-      record {
-        guide = rw (guide-in priced byte) (either-below (holds 1 byte) (omega arith) (either-below (holds 4 byte) (fits .good .guide) (omega arith)));
-        short = rw (short-in priced byte) (either-below (holds 2 byte) (fits .good .short) (omega arith));
-      }
-
-  -- what the byte of a vertex adds: the penalties that apply there, and closed where it is blocked
-  pub extra-told : (seen : List ℕ) {w : ℕ} → w < vertices (gridOf (t .grid))
-      → extraIn prices (getD seen w 0)
-      ≡ elim (viewBy (gridOf (t .grid)) seen .blocked w) [
-        | true ↦ inf
-        | false ↦ sumCost (guideAt (techBy t) (viewBy (gridOf (t .grid)) seen) w) (shortAt (techBy t) (viewBy (gridOf (t .grid)) seen) w)
-      ]
-  unfolding extraIn guideField shortField guideAt shortAt added
-  extra-told seen {w} h =
-      let byte = getD seen w 0 in
-      let is : added (holds 1 byte) (holds 4 byte) (holds 2 byte) (techBy t .guide) (techBy t .short)
-      ≡ added (view .blocked w) (not (view .guided w)) (view .taken w) (techBy t .guide) (techBy t .short) =
-      same-added (sym (seen-blocked _ seen w h)) (sym (seen-outside _ seen w h)) (sym (seen-taken _ seen w h)) in
-      rw (guide-in priced byte, short-in priced byte) (fields-charge (holds 1 byte) (holds 4 byte) (holds 2 byte) (techBy t .guide) (techBy t .short) ∙ is)
-    where
-      view : View
-      view = viewBy (gridOf (t .grid)) seen
-
-      same-added : {b b′ o o′ k k′ : Bool} → b ≡ b′ → o ≡ o′ → k ≡ k′
-          → added b o k (techBy t .guide) (techBy t .short) ≡ added b′ o′ k′ (techBy t .guide) (techBy t .short)
-      same-added p q r = λ i. added (p i) (q i) (r i) (techBy t .guide) (techBy t .short)
+    same-added : {b b′ o o′ k k′ : Bool} → b ≡ b′ → o ≡ o′ → k ≡ k′
+        → added b o k (techBy t .guide) (techBy t .short) ≡ added b′ o′ k′ (techBy t .guide) (techBy t .short)
+    same-added p q r = λ i. added (p i) (q i) (r i) (techBy t .guide) (techBy t .short)
 
 -- ---- the vertex that a move enters
 
@@ -168,7 +163,7 @@ module _ {t : TechStruct} {prices : List ℕ} {v w : ℕ} {from : VertexStruct} 
   unfolding entryOf entryAt entering techBy
   entry-shut closed =
       let view = seenBy t seen in
-      let told = sym closed ∙ extra-told (here .fits) (here .priced) seen into-below in
+      let told = sym closed ∙ extra-told t (here .priced) seen into-below in
       let sum = sumCost (guideAt (techBy t) view w) (shortAt (techBy t) view w) in
       rw (e, entryAt) (sym (closed-entry (view .blocked w) sum (base (techBy t) v w m) w told))
 
@@ -188,7 +183,7 @@ module _ {t : TechStruct} {prices : List ℕ} {v w : ℕ} {from : VertexStruct} 
       entering-told =
           let view = seenBy t seen in
           let sum = sumCost (guideAt (techBy t) view w) (shortAt (techBy t) view w) in
-          let (clear, adding) = unblocked (view .blocked w) sum (sym adds ∙ extra-told (here .fits) (here .priced) seen into-below) in
+          let (clear, adding) = unblocked (view .blocked w) sum (sym adds ∙ extra-told t (here .priced) seen into-below) in
           let based : b ≡ base (techBy t) v w m =
           price ∙ rw (here .is, is) (base-told m (here .fits) (here .priced) (here .there) e) in
           (clear, rw (adding, based) refl)
@@ -199,6 +194,6 @@ module _ {t : TechStruct} {prices : List ℕ} {v w : ℕ} {from : VertexStruct} 
       entry-open = let (clear, enter) = entering-told in rw (e, entryAt, clear, enter) refl
 
       -- and fits a word
-      pub entry-fits : b + extra ≤ 132091
+      pub entry-fits : b + extra ≤ 66557
       unfolding techBy
       entry-fits = entering-fits (seenBy t seen) m (here .fits .good) (here .there) e (entering-told .1) .1

@@ -5,6 +5,7 @@
 --     GoodSegment, GoodPlace           a vertex of the grid, and a running length from 1 to below the largest
 --                                      M
 --     GoodTech                         what a good job says of its layers
+--     dearestMove                      the most that a move can cost
 use Prim.Native.Nat.{ℕ, zero, suc, _+_, _-_, _*_, _/_, _%_, _^_, _≤_, _<_}
 use mathlib.Core.Path.{_≡_}
 use mathlib.Core.Bool.{cond}
@@ -72,3 +73,7 @@ pub record GoodTech (t : Tech) : Type 0 where
   pub short : t .short < 2 ^ 16
   pub lines : length (t .lines) ≡ t .grid .layers
   pub goodLines : GoodLines (t .lines)
+
+-- no move costs more: a wire or a via, a penalty of entering and one of overhead
+abbrev pub dearestMove : ℕ
+dearestMove = 1023 + 65534 + 65534

@@ -2,6 +2,7 @@
 -- Specification: section 2.3.
 --     Tech                     what a job says of its layers: the grid, the layer lines and the two penalties
 --     penalty                  a penalty where it applies; the closed one forbids
+--     closing                  a penalty in whose place another is added
 --     base, guideAt, shortAt   the parts of the price of entering
 --     entering                 their sum
 use Prim.Native.Nat.{ℕ}
@@ -40,9 +41,15 @@ penalty applies p = cond applies (charge p) (fin 0)
 unfoldable pub base : Tech → (from into move : ℕ) → ℕ
 base t from into move = elim (kindOf move) [ along d ↦ lineOf t into .wire | down ↦ lineOf t into .via | up ↦ lineOf t from .via ]
 
--- "plus the guide penalty if v lies in none of the net's boxes"
+-- a penalty in whose place another is added: nothing, but the closed one forbids
+unfoldable pub closing : Cost → Cost
+closing (fin n) = fin 0
+closing inf = inf
+
+-- "plus the guide penalty if v lies in none of the net's boxes"; but if v is taken too, "only the short
+-- penalty is added. A closed guide penalty still closes the vertex."
 unfoldable pub guideAt : Tech → View → (v : ℕ) → Cost
-guideAt t view v = penalty (not (view .guided v)) (t .guide)
+guideAt t view v = let outside = penalty (not (view .guided v)) (t .guide) in cond (view .taken v) (closing outside) outside
 
 -- "plus the short penalty if v is taken"
 unfoldable pub shortAt : Tech → View → (v : ℕ) → Cost

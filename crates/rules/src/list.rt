@@ -1,12 +1,11 @@
-// The price list, made once for a job: four numbers for each layer, then two for each byte of a vertex's
+// The price list, made once for a job: four numbers for each layer, then one for each byte of a vertex's
 // flags.
 ghost use mathlib.Core.Path.{_≡_};
-ghost use mathlib.Core.Bool.{cond};
 ghost use Prim.Native.Nat.{_+_, _*_, _<_, _≤_};
 ghost use lib.ListN.{length};
 ghost use lib.Seq.{sets};
 ghost use Rattle.rules.specs.Structs.{lineAt, techBy, TechFits};
-ghost use Rattle.rules.specs.PriceLists.{guideField, shortField, Priced};
+ghost use Rattle.rules.specs.PriceLists.{outsideField, extraField, Priced};
 ghost use Rattle.rules.specs.Lists.{lineNumbers, LinesTo, FlagsTo, SameLines};
 use crate::price::Tech;
 use job::groups::Layer;
@@ -49,42 +48,36 @@ fn fill_lines(prices: &mut [usize], layers: Layers)
     }
 }
 
-// A penalty where it applies.
-fn field_if(applies: bool, field: usize) -> usize
-    ensures { λ r. ⌜ r ≡ cond applies field 0 ⌝ }
+// The guide penalty of a byte of flags, where the vertex lies outside the guide.
+fn outside_field(guide: usize, byte: usize) -> usize
+    ensures { λ r. ⌜ r ≡ outsideField guide byte ⌝ }
 {
-    if applies { field } else { 0 }
+    if byte / 4 % 2 == 1 { guide } else { 0 }
 }
 
-// The guide penalty of a byte of flags: closed where the vertex is blocked, so that it is not entered.
-fn guide_field(guide: usize, byte: usize) -> usize
-    ensures { λ r. ⌜ r ≡ guideField guide byte ⌝ }
+// The one penalty of a byte of flags: closed where the vertex is blocked, so that it is not entered, and
+// where the guide penalty is; else the short penalty where it is taken, in place of the guide penalty.
+fn extra_field(guide: usize, short: usize, byte: usize) -> usize
+    ensures { λ r. ⌜ r ≡ extraField guide short byte ⌝ }
 {
-    if byte % 2 == 1 {
+    let outside = outside_field(guide, byte);
+    if (byte % 2 == 1) | (outside == Penalty::CLOSED) {
         return Penalty::CLOSED;
     }
-    field_if(byte / 4 % 2 == 1, guide)
-}
-
-// The short penalty of one.
-fn short_field(short: usize, byte: usize) -> usize
-    ensures { λ r. ⌜ r ≡ shortField short byte ⌝ }
-{
-    field_if(byte / 2 % 2 == 1, short)
+    if byte / 2 % 2 == 1 { short } else { outside }
 }
 
 fn fill_flags(prices: &mut [usize], guide: usize, short: usize)
-    requires { ⌜ 48 ≤ length (now prices) ⌝ }
+    requires { ⌜ 40 ≤ length (now prices) ⌝ }
     ensures { λ _. ⌜ FlagsTo (now (prices .exit)) guide short 8 ⌝ }
     ensures { λ _. ⌜ SameLines (now (prices .exit)) (now (prices .entry)) ⌝ }
 {
     for byte in 0..8 {
-        prices[32 + 2 * byte] = guide_field(guide, byte);
-        prices[33 + 2 * byte] = short_field(short, byte);
+        prices[32 + byte] = extra_field(guide, short, byte);
     }
 }
 
-pub fn fill_prices(prices: &mut [usize; 48], tech: Tech)
+pub fn fill_prices(prices: &mut [usize; 40], tech: Tech)
     requires { ⌜ TechFits tech ⌝ }
     ensures { λ _. ⌜ Priced (techBy tech) (now (prices .exit)) ⌝ }
 {

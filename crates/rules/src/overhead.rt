@@ -110,7 +110,7 @@ fn too_short(track: Track, line: Layer, seen: &[u8; 16384], v: usize, segment: S
 // A paid segment owes nothing.
 pub fn overhead_of(
     track: Track,
-    prices: &[usize; 48],
+    prices: &[usize; 40],
     seen: &[u8; 16384],
     v: usize,
     from: Vertex,

@@ -5,7 +5,7 @@ ghost use Rattle.rules.specs.Segments.{down};
 ghost use Rattle.rules.specs.Joins.{places};
 ghost use Rattle.rules.specs.Structs.{TechFits, techBy, costOf, kindBy};
 ghost use Rattle.rules.specs.declared.price.Tech.{Tech as TechStruct};
-ghost use Rattle.rules.specs.PriceLists.{lineIn, extraIn, baseIn, SmallExtra};
+ghost use Rattle.rules.specs.PriceLists.{lineIn, extraIn, baseIn};
 use crate::track::Kind;
 use job::grid::Grid;
 use job::groups::Layer;
@@ -41,7 +41,7 @@ pub fn places_on(grid: Grid, largest: usize) -> usize
 }
 
 // The layer line of a layer.
-pub fn line_at(prices: &[usize; 48], layer: usize) -> Layer
+pub fn line_at(prices: &[usize; 40], layer: usize) -> Layer
     requires { ⌜ layer < 8 ⌝ }
     ensures { λ r. ⌜ r ≡ lineIn (now (prices .entry)) layer ⌝ }
 {
@@ -54,7 +54,7 @@ pub fn line_at(prices: &[usize; 48], layer: usize) -> Layer
 }
 
 // The wire price of the layer, or the price of the via, which the line of the lower of its two layers holds.
-pub fn base_price(prices: &[usize; 48], layer: usize, kind: Kind) -> usize
+pub fn base_price(prices: &[usize; 40], layer: usize, kind: Kind) -> usize
     requires { ⌜ (layer < 8) × (kindBy kind ≡ down → 0 < layer) ⌝ }
     ensures { λ r. ⌜ r ≡ baseIn (now (prices .entry)) layer (kindBy kind) ⌝ }
 {
@@ -65,18 +65,9 @@ pub fn base_price(prices: &[usize; 48], layer: usize, kind: Kind) -> usize
     }
 }
 
-// What a vertex's byte of flags adds to that: the guide penalty and the short penalty, closed where either
-// is.
-pub fn extra_of(prices: &[usize; 48], byte: u8) -> Penalty
-    requires { ⌜ SmallExtra (now prices) byte ⌝ }
+// What a vertex's byte of flags adds to that.
+pub fn extra_of(prices: &[usize; 40], byte: u8) -> Penalty
     ensures { λ r. ⌜ costOf r ≡ extraIn (now (prices .entry)) byte ⌝ }
 {
-    let first = 32 + 2 * (byte % 8) as usize;
-    let Penalty::Price(guide) = Penalty::from_field(prices[first]) else {
-        return Penalty::Closed;
-    };
-    let Penalty::Price(short) = Penalty::from_field(prices[first + 1]) else {
-        return Penalty::Closed;
-    };
-    Penalty::Price(guide + short)
+    Penalty::from_field(prices[32 + (byte % 8) as usize])
 }

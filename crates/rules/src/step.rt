@@ -49,7 +49,7 @@ pub enum Entry {
 // closed.
 pub fn entry_of(
     grid: Grid,
-    prices: &[usize; 48],
+    prices: &[usize; 40],
     seen: &[u8; 16384],
     v: usize,
     from: Vertex,
@@ -160,7 +160,7 @@ fn leave_by(line: Layer, into: usize, enter: usize, overhead: Overhead) -> Stepp
 // A via move owes overhead for a segment that is too short.
 fn leave_layer(
     grid: Grid,
-    prices: &[usize; 48],
+    prices: &[usize; 40],
     seen: &[u8; 16384],
     place: Place,
     from: Vertex,
@@ -182,7 +182,7 @@ fn leave_layer(
 // What the move's kind asks of the segment.
 fn by_segment(
     grid: Grid,
-    prices: &[usize; 48],
+    prices: &[usize; 40],
     seen: &[u8; 16384],
     place: Place,
     from: Vertex,
@@ -207,7 +207,7 @@ fn by_segment(
 // vertex comes with its coordinates.
 pub fn step_from(
     grid: Grid,
-    prices: &[usize; 48],
+    prices: &[usize; 40],
     seen: &[u8; 16384],
     place: Place,
     from: Vertex,
@@ -236,7 +236,7 @@ pub fn step_from(
 // The same from the place alone.
 pub fn step(
     grid: Grid,
-    prices: &[usize; 48],
+    prices: &[usize; 40],
     seen: &[u8; 16384],
     place: Place,
     number: usize,

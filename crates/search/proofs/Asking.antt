@@ -22,7 +22,7 @@ use Rattle.rules.specs.Segments.{Place}
 use Rattle.rules.specs.Steps.{Stepped, step, priced}
 use Rattle.rules.specs.PriceLists.{Priced}
 use Rattle.rules.specs.Joins.{places}
-use Rattle.rules.specs.Places.{codeBy, placeCode, placeAt, GoodSegment, GoodPlace}
+use Rattle.rules.specs.Places.{codeBy, placeCode, placeAt, GoodSegment, GoodPlace, dearestMove}
 use Rattle.rules.specs.Structs.{OnGrid, segmentOf, Short, TechFits, techBy, seenBy, placeOf, madeBy, steppedBy, IsStepped, Here}
 use Rattle.rules.specs.declared.price.Tech.{Tech as TechStruct}
 use Rattle.rules.specs.declared.segment.Segment.{Segment as SegmentEnum}
@@ -196,7 +196,7 @@ module _ {tech : TechStruct} {settled : Settled} (at-place : AtPlace tech settle
     pub record Led (made : MadeStruct) : Type 0 where
       pub leads : priced does ≡ to (made .enter + made .over) (placeOf (made .next))
       pub good : GoodPlace (techBy tech) (placeOf (made .next))
-      pub price : made .enter + made .over ≤ 197625
+      pub price : made .enter + made .over ≤ dearestMove
 
     pub led : {r : SteppedEnum} {made : MadeStruct} → IsStepped (gridOf (tech .grid)) (seenBy tech seen) (placeOf (settled .place)) r does → r ≡ Legal made
         → Led made

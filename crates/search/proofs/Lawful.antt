@@ -19,7 +19,7 @@ use Rattle.rules.specs.Segments.{kindOf, Place}
 use Rattle.rules.specs.Prices.{Tech}
 use Rattle.rules.specs.Steps.{step, priced}
 use Rattle.rules.specs.Joins.{places}
-use Rattle.rules.specs.Places.{placeCode, GoodPlace, GoodTech}
+use Rattle.rules.specs.Places.{placeCode, GoodPlace, GoodTech, dearestMove}
 use Rattle.rules.specs.Walks.{startAt}
 use Rattle.rules.proofs.Places.{code-below, code-apart, start-good}
 use Rattle.rules.proofs.Moves.{step-parts, step-keeps, step-costs, step-limits}
@@ -27,7 +27,7 @@ use Rattle.rules.proofs.Segments.{move-led}
 use Rattle.search.specs.Fronts.{systemBy, startsBy}
 
 module _ {t : Tech} (view : View) (spots : List ℕ) (fine : GoodTech t) where
-  pub lawful-by : Lawful (systemBy t view spots) (GoodPlace t) (placeCode t) (places t) 197625
+  pub lawful-by : Lawful (systemBy t view spots) (GoodPlace t) (placeCode t) (places t) dearestMove
   lawful-by =
       record {
         keeps = λ {s} {m = m} h l. step-keeps view s m fine h (l .leads);

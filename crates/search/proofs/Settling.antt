@@ -18,7 +18,7 @@ use Rattle.rules.specs.Views.{View}
 use Rattle.rules.specs.Segments.{Place}
 use Rattle.rules.specs.Prices.{Tech}
 use Rattle.rules.specs.Joins.{places}
-use Rattle.rules.specs.Places.{placeCode, GoodPlace, GoodTech}
+use Rattle.rules.specs.Places.{placeCode, GoodPlace, GoodTech, dearestMove}
 use Rattle.rules.proofs.Places.{code-below, places-small}
 use Rattle.heap.specs.Heaps.{keyOf, In, keyAt, Heaped, Removed}
 use Rattle.heap.proofs.Laws.{removed-key, heaped-least}
@@ -78,7 +78,7 @@ module _ {t : Tech} (view : View) (spots bounds : List ℕ) (fine : GoodTech t) 
         laid = subst (λ (x : ℕ). Laid (places t) (size - 1) (settled + 1) x (set mid (places t + places t - 1 - settled) item)) key (laid-take l some w);
         told = λ c h touched. rw (same c h) (before .told c h (rw (take-keys l some w c h) at touched));
         spread =
-            spread-take view spots fine (before .spread) (197625 * (settled + 1)) item same (take-done l some w) (done-take l some w) (omega arith)
+            spread-take view spots fine (before .spread) (dearestMove * (settled + 1)) item same (take-done l some w) (done-take l some w) (omega arith)
             (omega arith);
         known = w .known;
         done = item-done l some w;

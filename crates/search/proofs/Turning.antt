@@ -14,11 +14,11 @@ use Rattle.rules.specs.Views.{View}
 use Rattle.rules.specs.Segments.{Place}
 use Rattle.rules.specs.Prices.{Tech}
 use Rattle.rules.specs.Joins.{places}
-use Rattle.rules.specs.Places.{placeCode, GoodPlace, GoodTech}
+use Rattle.rules.specs.Places.{placeCode, GoodPlace, GoodTech, dearestMove}
 use Rattle.rules.proofs.Places.{code-below, places-small}
 use Rattle.metal.specs.Codes.{Beyond}
 use Rattle.metal.proofs.Slices.{beyond-refl, beyond-by, beyond-trans}
-use Rattle.heap.specs.Heaps.{Lowered}
+use Rattle.heap.specs.Heaps.{mostItems, Lowered}
 use Rattle.bounds.specs.Bounds.{Bounding}
 use Rattle.search.specs.Fronts.{systemBy, leftAt, costs}
 use Rattle.search.specs.Lists.{Done}
@@ -154,7 +154,7 @@ module _ (t : Tech) (view : View) (spots bounds : List ℕ) (item distance : ℕ
     trying-now = so-far .turns (so-far .first .0) (so-far .first .1)
 
     -- the distance is small
-    pub trying-small : GoodTech t → distance ≤ 103612416000
+    pub trying-small : GoodTech t → distance ≤ dearestMove * mostItems
     trying-small fine = let (one, most) = turn-settled trying-now in omega (arith, trying-now .below, places-small fine)
 
     -- one more move

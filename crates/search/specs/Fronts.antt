@@ -8,7 +8,6 @@
 --     leadSlot, withLead         the slot of a lead that tells a move; the slice with such a lead
 --     ledBy, leadAt              whether a place has a lead, and the move that it tells
 --     noGoal, bestBy             the cost of the cheapest goal found
---     dearestMove                the most that a move can cost
 use Prim.Native.Nat.{ℕ, zero, suc, _+_, _-_, _*_, _/_, _%_}
 use mathlib.Core.List.{List}
 use mathlib.Core.Bool.{Bool, cond}
@@ -87,7 +86,3 @@ noGoal = 1099511627775
 -- the cost of the cheapest goal found
 unfoldable pub bestBy : (best : ℕ) → Cost
 bestBy best = cond (ltb best noGoal) (fin best) inf
-
--- no move costs more
-abbrev pub dearestMove : ℕ
-dearestMove = 197625

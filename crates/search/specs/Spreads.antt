@@ -23,10 +23,10 @@ use Rattle.rules.specs.Segments.{Place}
 use Rattle.rules.specs.Prices.{Tech}
 use Rattle.rules.specs.Walks.{startAt}
 use Rattle.rules.specs.Joins.{places}
-use Rattle.rules.specs.Places.{placeCode, GoodPlace}
+use Rattle.rules.specs.Places.{placeCode, GoodPlace, dearestMove}
 use Rattle.heap.specs.Heaps.{settledSlot, keyOf, slotOf, In, Lowered}
 use Rattle.metal.specs.Codes.{Beyond}
-use Rattle.search.specs.Fronts.{systemBy, startsBy, leftAt, costs, noGoal, dearestMove}
+use Rattle.search.specs.Fronts.{systemBy, startsBy, leftAt, costs, noGoal}
 use Rattle.search.specs.Lists.{Done, Laid}
 use Rattle.search.specs.Bits.{HasMove, withMove}
 

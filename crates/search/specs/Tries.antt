@@ -17,11 +17,11 @@ use Rattle.rules.specs.Views.{View}
 use Rattle.rules.specs.Segments.{fresh, Place}
 use Rattle.rules.specs.Prices.{Tech, charge}
 use Rattle.rules.specs.Steps.{step, priced}
-use Rattle.rules.specs.Places.{placeCode, GoodPlace}
+use Rattle.rules.specs.Places.{placeCode, GoodPlace, dearestMove}
 use Rattle.rules.specs.Structs.{techBy, TechFits, owedCost, placeOf}
 use Rattle.rules.specs.declared.price.Tech.{Tech as TechStruct}
 use Rattle.heap.specs.Heaps.{mostItems, keyOf}
-use Rattle.search.specs.Fronts.{leftAt, dearestMove}
+use Rattle.search.specs.Fronts.{leftAt}
 use Rattle.search.specs.declared.settled.Settled.{Settled}
 use Rattle.search.specs.declared.tries.Tried.{Tried}
 use Rattle.search.specs.declared.tries.Tried.the-variants.{Stopped, To}

@@ -36,7 +36,7 @@ pub fn lead_at(work: &[u64], code: usize) -> usize
 // Whether a move leads so, from a settled place.
 fn leads(
     tech: Tech,
-    prices: &[usize; 48],
+    prices: &[usize; 40],
     seen: &[u8; 16384],
     spots: &[u8; 16384],
     bounds: &[u64; 528],
@@ -73,7 +73,7 @@ fn leads(
 // The lowest move of a byte that does; 4 where none does. No other move may lead so.
 pub fn lowest_among(
     tech: Tech,
-    prices: &[usize; 48],
+    prices: &[usize; 40],
     seen: &[u8; 16384],
     spots: &[u8; 16384],
     bounds: &[u64; 528],

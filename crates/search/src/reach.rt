@@ -90,7 +90,7 @@ fn arrive(
 // Tries one move.
 fn reach(
     tech: Tech,
-    prices: &[usize; 48],
+    prices: &[usize; 40],
     seen: &[u8; 16384],
     spots: &[u8; 16384],
     bounds: &[u64; 528],
@@ -137,7 +137,7 @@ fn reach(
 // Tries the four moves of the place with a number, whose key is 16 times its cost with what is left, and 1.
 pub fn reach_all(
     tech: Tech,
-    prices: &[usize; 48],
+    prices: &[usize; 40],
     seen: &[u8; 16384],
     spots: &[u8; 16384],
     bounds: &[u64; 528],

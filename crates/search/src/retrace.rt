@@ -10,11 +10,11 @@ ghost use Rattle.heap.specs.Heaps.{mostItems, keyOf};
 ghost use Rattle.metal.specs.Codes.{Beyond};
 ghost use Rattle.rules.specs.Tracks.{vertexBy, at, entered};
 ghost use Rattle.rules.specs.Joins.{places};
-ghost use Rattle.rules.specs.Places.{placeAt};
+ghost use Rattle.rules.specs.Places.{placeAt, dearestMove};
 ghost use Rattle.rules.specs.PriceLists.{Priced};
 ghost use Rattle.rules.specs.Structs.{TechFits, techBy, seenBy};
 ghost use Rattle.bounds.specs.Bounds.{Bounding, SmallBounds};
-ghost use Rattle.search.specs.Fronts.{costs, withLead, noGoal, dearestMove};
+ghost use Rattle.search.specs.Fronts.{costs, withLead, noGoal};
 ghost use Rattle.search.specs.Lists.{Laid};
 ghost use Rattle.search.specs.Spreads.{Ended};
 ghost use Rattle.search.specs.Leads.{OnlyMoves, Answered};
@@ -84,7 +84,7 @@ fn lower_start(settled: Settled, start: usize) -> usize
 // other move does.
 fn retrace_place(
     tech: Tech,
-    prices: &[usize; 48],
+    prices: &[usize; 40],
     seen: &[u8; 16384],
     spots: &[u8; 16384],
     bounds: &[u64; 528],
@@ -139,7 +139,7 @@ fn retrace_place(
 // of the tree whose place has one. Before it no place has one. Only the moves of a vertex's byte may lead on.
 pub fn retrace(
     tech: Tech,
-    prices: &[usize; 48],
+    prices: &[usize; 40],
     seen: &[u8; 16384],
     spots: &[u8; 16384],
     bounds: &[u64; 528],

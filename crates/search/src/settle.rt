@@ -42,7 +42,7 @@ fn settle_next(work: &mut [u64], n: usize, size: usize, settled: usize) -> usize
 // The needed part of the slice is lent zero.
 pub fn settle(
     tech: Tech,
-    prices: &[usize; 48],
+    prices: &[usize; 40],
     seen: &[u8; 16384],
     spots: &[u8; 16384],
     bounds: &[u64; 528],

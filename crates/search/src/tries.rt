@@ -53,7 +53,7 @@ pub struct Attempt {
 // A step along the track makes the segment longer.
 fn try_along(
     tech: Tech,
-    prices: &[usize; 48],
+    prices: &[usize; 40],
     seen: &[u8; 16384],
     settled: Settled,
     number: usize,
@@ -120,7 +120,7 @@ fn passed_over(
 // What a via owes, asked once.
 fn ask_owed(
     tech: Tech,
-    prices: &[usize; 48],
+    prices: &[usize; 40],
     seen: &[u8; 16384],
     settled: Settled,
     owed: usize,
@@ -169,7 +169,7 @@ fn to_fresh(into: usize, price: usize, owed: usize) -> Attempt
 // A via makes the segment fresh. One that is passed over is not asked what it owes.
 fn try_via(
     tech: Tech,
-    prices: &[usize; 48],
+    prices: &[usize; 40],
     seen: &[u8; 16384],
     bounds: &[u64; 528],
     work: &[u64],
@@ -202,7 +202,7 @@ fn try_via(
 // The move's kind tells a step from a via.
 pub fn try_move(
     tech: Tech,
-    prices: &[usize; 48],
+    prices: &[usize; 40],
     seen: &[u8; 16384],
     bounds: &[u64; 528],
     work: &[u64],

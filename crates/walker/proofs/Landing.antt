@@ -15,7 +15,7 @@ use Rattle.job.specs.Structs.{gridOf}
 use Rattle.rules.specs.Views.{View}
 use Rattle.rules.specs.Segments.{Place}
 use Rattle.rules.specs.Prices.{Tech}
-use Rattle.rules.specs.Places.{GoodTech, GoodPlace}
+use Rattle.rules.specs.Places.{GoodTech, GoodPlace, dearestMove}
 use Rattle.rules.specs.Steps.{Made, legal, step, priceOf, priced}
 use Rattle.rules.specs.Walks.{startAt, total}
 use Rattle.rules.specs.Structs.{segmentOf, TechFits, techBy, placeOf, madeBy, WholeMade}
@@ -53,7 +53,7 @@ step-lands {t} view p m good-t on e =
 -- a move leads to a good place, and its numbers are small
 pub record MoveFits (tech : TechStruct) (m : MadeStruct) : Type 0 where
   pub place : GoodPlace (techBy tech) (placeOf (m .next))
-  pub price : m .enter + m .over ≤ 197625
+  pub price : m .enter + m .over ≤ dearestMove
   pub added : m .added ≤ 15
   pub penalties : m .penalties ≤ 1
 
@@ -61,7 +61,7 @@ pub record MoveFits (tech : TechStruct) (m : MadeStruct) : Type 0 where
 pub record MovesMade (tech : TechStruct) (n : ℕ) (walk : Walk) (gone : Gone) : Type 0 where
   pub is : IsWalk walk gone
   pub place : GoodPlace (techBy tech) (placeOf (walk .place))
-  pub cost : walk .cost ≤ 197625 * n
+  pub cost : walk .cost ≤ dearestMove * n
   pub added : walk .added ≤ 15 * n
   pub penalties : walk .penalties ≤ n
 

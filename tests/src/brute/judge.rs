@@ -89,25 +89,29 @@ impl Brute<'_> {
         others.any(|(net, metal)| net != self.net && metal.contains(&vertex))
     }
 
+    /// Wire or via, and where the vertex is taken the short penalty, in place of the guide penalty
+    /// that is due outside; but neither may be closed where it is due.
     fn price_of_entering(&self, from: Vertex, to: Vertex) -> Option<u64> {
         let vertex = self.job.grid().number(to);
         if self.blocked(vertex) {
             return None;
         }
-        let mut price = if from.layer == to.layer {
+        let base = if from.layer == to.layer {
             self.job.layers[to.layer as usize].wire_price
         } else {
             self.job.layers[from.layer.min(to.layer) as usize].via_price
         };
         let boxes = &self.job.nets[self.net].boxes;
         let inside = boxes.iter().any(|guide| guide.outside_by(to).is_none());
+        let open = |penalty: u32| Some(penalty).filter(|penalty| *penalty != CLOSED);
+        let mut penalty = 0;
         if !boxes.is_empty() && !inside {
-            price += Some(self.job.guide_penalty).filter(|price| *price != CLOSED)?;
+            penalty = open(self.job.guide_penalty)?;
         }
         if self.taken(vertex) {
-            price += Some(self.job.short_penalty).filter(|price| *price != CLOSED)?;
+            penalty = open(self.job.short_penalty)?;
         }
-        Some(u64::from(price))
+        Some(u64::from(base + penalty))
     }
 
     /// The overhead of a via out of a segment of these steps between these vertices.

@@ -1,12 +1,17 @@
 //! Random good jobs that are worth routing: grids small enough to search often,
-//! prices so close that routes tie, and nets that get in each other's way.
+//! prices so close that routes tie, and nets that get in each other's way, at times by a crossing
+//! outside a guide.
 
 use std::mem::swap;
 
+use super::crossing::crossing;
 use super::{free_vertices, good_job, layers, penalty, some_nets, some_obstacles};
 use crate::grid::{vertex, Grid, Vertex, MOST_LAYERS};
 use crate::job::{GuideBox, Job, Layer, Net, Obstacle, CLOSED, MOST_PINS};
 use crate::random::Random;
+
+/// One job in so many has nets that cross on a narrow grid.
+const CROSSED_EVERY: u32 = 5;
 
 #[derive(Clone, Copy, Debug, PartialEq, Eq)]
 pub enum Size {
@@ -52,9 +57,15 @@ pub fn deep_routable_job(random: &mut Random) -> Job {
 }
 
 pub fn routable_job(size: Size, random: &mut Random) -> Job {
-    let grid = grid(size, random);
-    let obstacles = obstacles(&grid, random);
-    let nets = nets(size, &grid, &obstacles, random);
+    let (grid, obstacles, nets) = if random.one_in(CROSSED_EVERY) {
+        let (grid, nets) = crossing(most_layers(size), random);
+        (grid, Vec::new(), nets)
+    } else {
+        let grid = grid(size, random);
+        let obstacles = obstacles(&grid, random);
+        let nets = nets(size, &grid, &obstacles, random);
+        (grid, obstacles, nets)
+    };
     let close = !random.one_in(4);
     Job {
         guide_penalty: priced(close, 12, random),
@@ -70,14 +81,21 @@ pub fn routable_job(size: Size, random: &mut Random) -> Job {
     }
 }
 
+fn most_layers(size: Size) -> u32 {
+    match size {
+        Size::Tiny => 4,
+        Size::Small | Size::Medium => MOST_LAYERS,
+    }
+}
+
 fn grid(size: Size, random: &mut Random) -> Grid {
-    let (most_layers, most_rows, most_columns, most_vertices) = match size {
-        Size::Tiny => (4, 5, 5, 36),
-        Size::Small => (MOST_LAYERS, 10, 10, 200),
-        Size::Medium => (MOST_LAYERS, 32, 32, 1_500),
+    let (most_rows, most_columns, most_vertices) = match size {
+        Size::Tiny => (5, 5, 36),
+        Size::Small => (10, 10, 200),
+        Size::Medium => (32, 32, 1_500),
     };
     let layers = if random.one_in(3) {
-        random.edgy(1, most_layers)
+        random.edgy(1, most_layers(size))
     } else {
         random.between(2, 4)
     };

@@ -4,7 +4,7 @@
 use crate::joining::Totals;
 
 /// Costs of the joins of each marked job; None where there is none.
-pub const COSTS: [(char, &[Option<u64>]); 12] = [
+pub const COSTS: [(char, &[Option<u64>]); 13] = [
     ('A', &[Some(3)]),
     ('B', &[Some(10)]),
     ('C', &[Some(58)]),
@@ -17,9 +17,10 @@ pub const COSTS: [(char, &[Option<u64>]); 12] = [
     ('J', &[Some(13)]),
     ('K', &[Some(2), Some(74)]),
     ('L', &[Some(2), None]),
+    ('N', &[Some(2), Some(84)]),
 ];
 
-pub const TOTALS: [(char, Totals); 12] = [
+pub const TOTALS: [(char, Totals); 13] = [
     ('A', Totals::of(3, 0, 0, 1)),
     ('B', Totals::of(10, 2, 0, 1)),
     ('C', Totals::of(58, 0, 1, 1)),
@@ -32,6 +33,7 @@ pub const TOTALS: [(char, Totals); 12] = [
     ('J', Totals::of(13, 0, 0, 1)),
     ('K', Totals::of(76, 0, 1, 2)),
     ('L', Totals::of(2, 0, 0, 1)),
+    ('N', Totals::of(86, 0, 1, 2)),
 ];
 
 /// The plan of A.

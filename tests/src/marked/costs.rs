@@ -16,7 +16,7 @@ const HEAD: &str = "\
 -- The least costs to go in the marked jobs: for each job a table for each of its joins, in order. A table has
 -- a row for each vertex in the order of their numbers, and the row an entry for each segment: fresh, running
 -- low and high by length, paid, paid toward low and toward high. 0 is infinite, and n + 1 is the cost n.
---     costsA .. costsL     the tables of each job
+--     costsA .. costsN     the tables of each job
 use Prim.Native.Nat.{ℕ}
 use mathlib.Core.List.{List, [], _∷_}
 ";

@@ -9,7 +9,7 @@ use crate::rules::moves::Move::{Down, High, Low, Up};
 
 /// Of layers 0, 1 and 2: wire steps, vias, added steps, penalised segments, guide entries and
 /// short entries.
-pub const LAYERS: [[u64; KINDS]; 3] = [[2, 3, 0, 0, 0, 0], [4, 1, 2, 1, 3, 1], [3, 0, 0, 0, 1, 0]];
+pub const LAYERS: [[u64; KINDS]; 3] = [[2, 3, 0, 0, 0, 0], [4, 1, 2, 1, 2, 1], [3, 0, 0, 0, 1, 0]];
 
 /// Three layers with wires at 1, 3 and 5, vias at 2 and 7, area penalties of 50, 60 and 70. Net
 /// 2 is inside its guide on layers 0 and 2 up to column 4, net 3 on layer 0 up to there.
@@ -44,11 +44,12 @@ pub fn net(pins: &[Vertex], boxes: &[(Vertex, Vertex)]) -> Net {
 }
 
 /// Net 1 steps along layer 1. Net 2 crosses it: the vertex that it enters there is taken and
-/// outside, and the fresh segment has no room between net 1's wires; the pin that it ends at is
-/// outside too. Net 3 walks outside, on layer 1: its segment of one step is lengthened by two.
+/// outside, which is a short entry only, and the fresh segment has no room between net 1's wires;
+/// the pin that it ends at is outside too. Net 3 walks outside, on layer 1: its segment of one
+/// step is lengthened by two.
 pub fn plan() -> Vec<Record> {
     let net_2 = [High, High, Up, Up, High, High, High];
-    let cost_2 = (1 + 1) + (2 + 10 + 20) + (7 + 60) + (5 + 5) + (5 + 10);
+    let cost_2 = (1 + 1) + (2 + 20) + (7 + 60) + (5 + 5) + (5 + 10);
     let cost_3 = (2 + 10) + (3 + 10) + (2 + 6);
     vec![
         Record::of(vertex(1, 0, 2), &[High, High, High], 9),

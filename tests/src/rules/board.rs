@@ -4,10 +4,12 @@ use crate::grid::vertex;
 use crate::job::{GuideBox, Job, Layer};
 use crate::rules::moves::Neighbours;
 use crate::rules::segment::Segment;
+use crate::rules::view::{penalty, Penalty};
 
 pub struct Board<'a> {
     pub job: &'a Job,
     pub neighbours: Neighbours,
+    pub(super) penalty: Penalty,
     obstacle: Vec<bool>,
     /// The net that has its pin here, counted from 1; 0 for none.
     pin_of: Vec<u16>,
@@ -16,11 +18,17 @@ pub struct Board<'a> {
 
 impl<'a> Board<'a> {
     pub fn new(job: &'a Job) -> Self {
+        Board::with_penalty(job, penalty)
+    }
+
+    /// A board on which entering a vertex adds this.
+    pub fn with_penalty(job: &'a Job, penalty: Penalty) -> Self {
         let grid = job.grid();
         let vertices = grid.vertices() as usize;
         let mut board = Board {
             job,
             neighbours: Neighbours::of(&grid),
+            penalty,
             obstacle: vec![false; vertices],
             pin_of: vec![0; vertices],
             layer_of: (0..grid.vertices())

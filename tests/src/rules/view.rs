@@ -16,17 +16,23 @@ pub enum Cause {
     OtherPin,
     GuideClosed,
     ShortClosed,
+    /// A closed guide, where the vertex is taken and the short penalty is open.
+    GuideClosedTaken,
+    /// A closed short, where the vertex is outside the guide.
+    ShortClosedOutside,
     StepBack,
     AreaClosed,
 }
 
 impl Cause {
-    pub const ALL: [Cause; 7] = [
+    pub const ALL: [Cause; 9] = [
         Cause::OffGrid,
         Cause::Obstacle,
         Cause::OtherPin,
         Cause::GuideClosed,
         Cause::ShortClosed,
+        Cause::GuideClosedTaken,
+        Cause::ShortClosedOutside,
         Cause::StepBack,
         Cause::AreaClosed,
     ];
@@ -38,6 +44,8 @@ impl Cause {
             Cause::OtherPin => "move into another net's pin",
             Cause::GuideClosed => "move out of a closed guide",
             Cause::ShortClosed => "move into a closed short",
+            Cause::GuideClosedTaken => "move out of a closed guide into a taken vertex",
+            Cause::ShortClosedOutside => "move into a closed short outside the guide",
             Cause::StepBack => "step back",
             Cause::AreaClosed => "via with a closed area penalty",
         }
@@ -48,7 +56,7 @@ pub struct View<'a> {
     pub(super) board: &'a Board<'a>,
     outside: Vec<bool>,
     taken: Vec<bool>,
-    /// Guide and short penalty of entering the vertex, or what forbids it.
+    /// The guide or short penalty of entering the vertex, or what forbids it.
     penalty: Vec<Result<u32, Cause>>,
     clear_low: Vec<u8>,
     clear_high: Vec<u8>,
@@ -57,13 +65,14 @@ pub struct View<'a> {
 impl<'a> View<'a> {
     /// The view of a net, counted from 1.
     pub fn of(board: &'a Board<'a>, net: u16, metal: &Metal) -> Self {
-        let extras = Extras::of(board.job);
         let outside = board.outside_guide(net);
         let taken = |vertex| metal.taken(net, vertex);
         let taken: Vec<_> = (0..board.vertices()).map(taken).collect();
-        let penalty = |vertex| {
+        let each = [false, true];
+        let penalties = each.map(|out| each.map(|taken| (board.penalty)(board.job, out, taken)));
+        let penalty = |vertex: usize| {
             may_enter(board, net, vertex)?;
-            extras.of_entering(outside[vertex], taken[vertex])
+            penalties[usize::from(outside[vertex])][usize::from(taken[vertex])]
         };
         let clear = |vertex| may_enter(board, net, vertex).is_ok() && !taken[vertex];
         let penalty: Vec<_> = (0..board.vertices()).map(penalty).collect();
@@ -88,6 +97,10 @@ impl<'a> View<'a> {
         self.taken[vertex]
     }
 
+    pub fn outside_and_taken(&self, vertex: usize) -> bool {
+        self.outside(vertex) && self.taken(vertex)
+    }
+
     /// What entering the vertex costs beside wire or via.
     pub fn penalty(&self, vertex: usize) -> Result<u32, Cause> {
         self.penalty[vertex]
@@ -102,25 +115,22 @@ impl<'a> View<'a> {
     }
 }
 
-/// "Plus the guide penalty if v lies in none of the net's boxes, plus the short
-/// penalty if v is taken"; the closed price forbids what it prices.
-struct Extras {
-    /// For vertices inside the guide and outside, each clear and taken.
-    sums: [Result<u32, Cause>; 4],
-}
+/// What entering a vertex adds to wire or via in a job, if the vertex is outside the guide and
+/// if it is taken, or what forbids it.
+pub type Penalty = fn(&Job, bool, bool) -> Result<u32, Cause>;
 
-impl Extras {
-    fn of(job: &Job) -> Self {
-        let guide = open(job.guide_penalty, Cause::GuideClosed);
-        let short = open(job.short_penalty, Cause::ShortClosed);
-        let both = guide.and_then(|guide| short.map(|short| guide + short));
-        Extras {
-            sums: [Ok(0), short, guide, both],
+/// "Where a vertex is both, the taken rule is read first and only the short penalty is added. A
+/// closed guide penalty still closes the vertex."
+pub fn penalty(job: &Job, outside: bool, taken: bool) -> Result<u32, Cause> {
+    match (taken, outside) {
+        (false, false) => Ok(0),
+        (false, true) => open(job.guide_penalty, Cause::GuideClosed),
+        (true, false) => open(job.short_penalty, Cause::ShortClosed),
+        (true, true) => {
+            let short = open(job.short_penalty, Cause::ShortClosedOutside)?;
+            open(job.guide_penalty, Cause::GuideClosedTaken)?;
+            Ok(short)
         }
-    }
-
-    fn of_entering(&self, outside: bool, taken: bool) -> Result<u32, Cause> {
-        self.sums[usize::from(outside) * 2 + usize::from(taken)]
     }
 }
 

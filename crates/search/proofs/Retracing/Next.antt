@@ -20,10 +20,10 @@ use Rattle.rules.specs.Views.{View}
 use Rattle.rules.specs.Segments.{Place}
 use Rattle.rules.specs.Prices.{Tech}
 use Rattle.rules.specs.Joins.{places}
-use Rattle.rules.specs.Places.{placeCode, GoodPlace}
+use Rattle.rules.specs.Places.{placeCode, GoodPlace, dearestMove}
 use Rattle.rules.proofs.Places.{code-below, places-small}
 use Rattle.heap.specs.Heaps.{mostItems}
-use Rattle.search.specs.Fronts.{systemBy, costs, reachedBy, ledBy, leadAt, dearestMove}
+use Rattle.search.specs.Fronts.{systemBy, costs, reachedBy, ledBy, leadAt}
 use Rattle.search.specs.Lists.{listAt, Done, Laid}
 use Rattle.search.specs.Bits.{HasMove}
 use Rattle.search.specs.Spreads.{keys}

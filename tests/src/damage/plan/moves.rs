@@ -57,14 +57,17 @@ fn walk_without_pin(plan: LegalPlan, net: &NetAtHand, random: &mut Random) -> Jo
     }
 }
 
-/// A move that is forbidden, after legal ones, with what forbids it. Each cause
-/// that the walk comes by is as likely.
+/// A move that is forbidden, after legal ones, with what forbids it, in a join or in place of
+/// none. Each cause that the walk comes by is as likely.
 pub fn illegal_move(plan: LegalPlan, random: &mut Random) -> Option<(AimedPlan, Cause)> {
-    let number = plan.any_join(random)?;
+    if plan.records.is_empty() {
+        return None;
+    }
+    let number = random.index(plan.records.len());
     let (mut join, forbidden) = plan.before(number, |net| {
         let mut join = walk_without_pin(plan, net, random);
-        if random.one_in(3) {
-            join = plan.records[number].join().expect("a join").clone();
+        if let (Some(recorded), true) = (plan.records[number].join(), random.one_in(3)) {
+            join = recorded.clone();
             join.moves.pop();
         }
         let forbidden = forbidden_moves(plan, net, &join);

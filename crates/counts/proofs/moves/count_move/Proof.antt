@@ -32,16 +32,16 @@ add-count-requires-2 c κs =
 has-requires : tie.Need-has-requires
 has-requires c κs = search needs
 
-count-if-requires : tie.Need-count-if-requires
-count-if-requires c κs =
-    let pre = c .before .before .before .before .before .before .before .before .before .pre in
-    let one = fit-one _ _ (c .before .before .before .before .before .before .count-way .ensures) (rw way-one (omega arith)) (pre .5) in
-    let two = fit-one _ _ (c .before .before .before .before .add-count .ensures) (omega (arith, pre .3)) one in
-    let three = fit-one _ _ (c .before .before .add-count2 .ensures) (omega (arith, pre .4)) two in
-    (rw (c .before .before .before .before .before .before .before .before .vertex-by .ensures) (fits _ _ (record { small = pre .0 .small; there = pre .2 }) .layer), omega arith, fit-under _ three (omega arith))
-
 has-requires-2 : tie.Need-has-requires-2
 has-requires-2 c κs = search needs
+
+count-if-requires : tie.Need-count-if-requires
+count-if-requires c κs =
+    let pre = c .before .before .before .before .before .before .before .before .before .before .pre in
+    let one = fit-one _ _ (c .before .before .before .before .before .before .before .count-way .ensures) (rw way-one (omega arith)) (pre .5) in
+    let two = fit-one _ _ (c .before .before .before .before .before .add-count .ensures) (omega (arith, pre .3)) one in
+    let three = fit-one _ _ (c .before .before .before .add-count2 .ensures) (omega (arith, pre .4)) two in
+    (rw (c .before .before .before .before .before .before .before .before .before .vertex-by .ensures) (fits _ _ (record { small = pre .0 .small; there = pre .2 }) .layer), omega arith, fit-under _ three (omega arith))
 
 count-if-requires-2 : tie.Need-count-if-requires-2
 count-if-requires-2 c κs =
@@ -49,7 +49,7 @@ count-if-requires-2 c κs =
     let one = fit-one _ _ (c .before .before .before .before .before .before .before .before .before .count-way .ensures) (rw way-one (omega arith)) (pre .5) in
     let two = fit-one _ _ (c .before .before .before .before .before .before .before .add-count .ensures) (omega (arith, pre .3)) one in
     let three = fit-one _ _ (c .before .before .before .before .before .add-count2 .ensures) (omega (arith, pre .4)) two in
-    let four = fit-one _ _ (c .before .before .count-if .ensures) (one-few _) three in
+    let four = fit-one _ _ (c .before .count-if .ensures) (one-few _) three in
     (rw (c .before .before .before .before .before .before .before .before .before .before .before .vertex-by .ensures) (fits _ _ (record { small = pre .0 .small; there = pre .2 }) .layer), omega arith, fit-under _ four (omega arith))
 
 returns : tie.Need-returns
@@ -57,14 +57,14 @@ returns c =
     let pre = c .before .before .before .before .before .before .before .before .before .before .before .before .before .pre in
     let layer = ap (λ x. x .layer) (c .before .before .before .before .before .before .before .before .before .before .before .before .vertex-by .ensures) in (
       layer,
-      λ p left. move-counted _ _ p _ _ left layer (pre .2) (c .before .before .before .before .has .ensures) (c .before .has2 .ensures)
+      λ p left. move-counted _ _ p _ _ left layer (pre .2) (c .before .before .before .has2 .ensures) (c .before .before .before .before .before .has .ensures)
           (c .before .before .before .before .before .before .before .before .before .before .count-way .ensures)
           (c .before .before .before .before .before .before .before .before .add-count .ensures)
           (c .before .before .before .before .before .before .add-count2 .ensures)
-          (c .before .before .before .count-if .ensures) (c .count-if2 .ensures),
+          (c .before .before .count-if .ensures) (c .count-if2 .ensures),
     )
 
 pub count-move-spec : {M : Type 1} → statement M
 count-move-spec =
-    tie.close (tie.spec vertex-by-requires count-way-requires add-count-requires add-count-requires-2 has-requires count-if-requires
-    has-requires-2 count-if-requires-2 returns)
+    tie.close (tie.spec vertex-by-requires count-way-requires add-count-requires add-count-requires-2 has-requires has-requires-2
+    count-if-requires count-if-requires-2 returns)

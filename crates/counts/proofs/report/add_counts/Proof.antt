@@ -1,4 +1,5 @@
--- `counts::report::add_counts` meets its contract: the report is short, a count is too large, or all are added.
+-- `counts::report::add_counts` meets its contract: the report is short, a count is too large, or all are
+-- added.
 use borrow.Author.Needs.{needs}
 use Rattle.counts.proofs.Reporting.{none-fits, room-short, room-over, room-whole}
 use Rattle.counts.proofs.report.add_counts.Statement.{statement}

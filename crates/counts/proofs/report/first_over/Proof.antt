@@ -1,5 +1,5 @@
--- `counts::report::first_over` meets its contract: whether one of those left is too large is whether one of all
--- is.
+-- `counts::report::first_over` meets its contract: whether one of those left is too large is whether one of
+-- all is.
 use Prim.Native.Nat.{_-_}
 use mathlib.Core.Path.{_≡_, refl, _∙_}
 use native.Mathlib.Omega.{arith}

@@ -1,4 +1,5 @@
--- `router::report_call::maizespell_report` meets its contract: the plan is turned back, or its counts are tried.
+-- `router::report_call::maizespell_report` meets its contract: the plan is turned back, or its counts are
+-- tried.
 use borrow.Author.Needs.{needs}
 use Rattle.router.proofs.Reports.{zeros-fit, counts-long, report-turned, report-taken}
 use Rattle.router.proofs.Adds.{report-parts}

@@ -5,7 +5,7 @@ use borrow.Author.Needs.{needs}
 use Rattle.rules.specs.Structs.{techBy, costOf}
 use Rattle.rules.proofs.Fitting.{entered-outside, entered-at}
 use Rattle.rules.proofs.Held.{on-grid, in-array}
-use Rattle.rules.proofs.PriceLists.{extra-small, entry-outside, into-below, entry-shut, base-asked, entry-open, entry-fits}
+use Rattle.rules.proofs.PriceLists.{entry-outside, into-below, entry-shut, base-asked, entry-open, entry-fits}
 use Rattle.rules.proofs.step.entry_of.Statement.{statement}
 use Rattle.rules.proofs.step.entry_of.Tie as tie
 
@@ -32,9 +32,7 @@ element-copy-out-extra-of c =
     in-array (here .fits) (into-below (start .args .seen .now) (start .args .number) here on)
 
 extra-of-requires : tie.Need-extra-of-requires
-extra-of-requires c κs =
-    let here = c .before .before .before .before .before .pre .1 in
-    extra-small (here .fits) (here .priced) _
+extra-of-requires c κs = search needs
 
 enum-known-extra : tie.Need-enum-known-extra
 enum-known-extra c = search needs
