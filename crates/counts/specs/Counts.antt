@@ -73,8 +73,8 @@ unfoldable pub wayCount : (left entered : ℕ) → Count
 wayCount left entered =
     cond (ltb left entered) (count left vias 1) (cond (ltb entered left) (count entered vias 1) (count entered steps 1))
 
--- added steps and penalised segments are of the layer left, "guide and short entries (by the layer entered)";
--- where a vertex is both outside the guide and taken, "such an entry" counts "as a short entry only"
+-- added steps and penalised segments are of the layer left, "guide and short entries (by the layer entered)".
+-- A vertex that is outside the guide and taken: "The wire report counts such an entry as a short entry only."
 unfoldable pub moveCounts : Grid → View → (from : ℕ) → Made → List Count
 moveCounts g view v made =
     let w = made .next .vertex in

@@ -1,9 +1,9 @@
--- A legal move leads from a good place to another, at a price from 1 to 132,091.
+-- A legal move leads from a good place to another, at a price from 1 to the dearest.
 --     Went, step-parts     the vertex that a legal move enters, the price of entering it, and what the
 --                          segment makes of it
 --     step-keeps           the next place is good
 --     step-costs           a move costs at least 1
---     step-limits          a move costs at most 132,091
+--     step-limits          no move costs more than the dearest
 --     step-penalties       it penalises at most one segment
 use Prim.Native.Nat.{ℕ, _≤_}
 use mathlib.Core.Path.{_≡_, refl}
@@ -64,7 +64,7 @@ step-keeps {t} view p m good h e =
     let l = move-led view p (kindOf m) (went .vertex) (went .enter) good (h .vertex) (went .does) in
     record { vertex = rw (l .vertex) (entered-below (t .grid) m (h .vertex) (went .enters)); segment = l .segment }
 
--- a move costs from 1 to 132,091
+-- a move costs from 1 to the dearest
 step-fits : {t : Tech} (view : View) (p : Place) (m : ℕ) {c : ℕ} {q : Place} → GoodTech t → GoodPlace t p → priced (step t view p m) ≡ to c q
     → (1 ≤ c) × (c ≤ dearestMove)
 step-fits {t} view p m good h e =
@@ -78,7 +78,7 @@ pub step-costs : {t : Tech} (view : View) (p : Place) (m : ℕ) {c : ℕ} {q : P
     → 1 ≤ c
 step-costs view p m good h e = step-fits view p m good h e .0
 
--- a move costs at most 132,091
+-- and no more than the dearest
 pub step-limits : {t : Tech} (view : View) (p : Place) (m : ℕ) {c : ℕ} {q : Place} → GoodTech t → GoodPlace t p → priced (step t view p m) ≡ to c q
     → c ≤ dearestMove
 step-limits view p m good h e = step-fits view p m good h e .1

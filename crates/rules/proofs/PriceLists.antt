@@ -24,6 +24,7 @@ use Rattle.rules.specs.Tracks.{layerOf, outside, at, entered}
 use Rattle.rules.specs.Views.{View}
 use Rattle.rules.specs.Segments.{Kind, down, kindOf}
 use Rattle.rules.specs.Prices.{Tech, lineOf, charge, penalty, closing, base, guideAt, shortAt, sumCost, entering}
+use Rattle.rules.specs.Places.{dearestEntry}
 use Rattle.rules.specs.PriceLists.{lineIn, baseIn, outsideField, extraField, extraIn, Priced}
 use Rattle.rules.specs.Seen.{holds, viewBy}
 use Rattle.rules.specs.Structs.{techBy, TechFits, costOf, seenBy, entryBy, entryAt, entryOf, Here}
@@ -194,6 +195,6 @@ module _ {t : TechStruct} {prices : List ℕ} {v w : ℕ} {from : VertexStruct} 
       entry-open = let (clear, enter) = entering-told in rw (e, entryAt, clear, enter) refl
 
       -- and fits a word
-      pub entry-fits : b + extra ≤ 66557
+      pub entry-fits : b + extra ≤ dearestEntry
       unfolding techBy
       entry-fits = entering-fits (seenBy t seen) m (here .fits .good) (here .there) e (entering-told .1) .1

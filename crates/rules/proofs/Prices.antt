@@ -1,7 +1,7 @@
 -- The price of entering a vertex.
 --     one-penalty       of the two penalties one is added at most
 --     base-fits         the wire price or the via price is from 1 to 1,023
---     entering-fits     with a penalty that is not closed, from 1 to 66,557
+--     entering-fits     with a penalty that is not closed, from 1 to the dearest
 --     entering-both     the price at a vertex outside the guide and taken
 use Prim.Native.Nat.{ℕ, zero, suc, _+_, _≤_, _<_}
 use mathlib.Core.Path.{_≡_, refl, ap}
@@ -17,7 +17,7 @@ use Rattle.rules.specs.Tracks.{outside, at, entered}
 use Rattle.rules.specs.Segments.{kindOf}
 use Rattle.rules.specs.Views.{View}
 use Rattle.rules.specs.Prices.{Tech, charge, penalty, closing, base, guideAt, shortAt, sumCost, entering}
-use Rattle.rules.specs.Places.{GoodTech}
+use Rattle.rules.specs.Places.{GoodTech, dearestEntry}
 use Rattle.rules.proofs.Neighbours.{low-enters, high-enters, down-enters, up-enters}
 use Rattle.rules.proofs.Techs.{line-good, via-some}
 
@@ -83,9 +83,9 @@ base-fits {t} {v} {w} (suc (suc (suc (suc m)))) good h e = absurd (nowhere e)
     nowhere : outside ≡ at w → ⊥
     nowhere q = let z : _≡_ {A = ℕ} 0 1 = cc in omega arith
 
--- the price of entering is from 1 to 66,557
+-- the price of entering is from 1 to the dearest
 pub entering-fits : {t : Tech} (view : View) {v w n : ℕ} (m : ℕ) → GoodTech t → v < vertices (t .grid) → entered (t .grid) v m ≡ at w
-    → entering t view v w m ≡ fin n → (1 ≤ n) × (n ≤ 66557)
+    → entering t view v w m ≡ fin n → (1 ≤ n) × (n ≤ dearestEntry)
 unfolding entering guideAt shortAt
 entering-fits {t} view {v} {w} m good h e p =
     let b = base-fits m good h e in

@@ -5,7 +5,7 @@
 --     GoodSegment, GoodPlace           a vertex of the grid, and a running length from 1 to below the largest
 --                                      M
 --     GoodTech                         what a good job says of its layers
---     dearestMove                      the most that a move can cost
+--     dearestEntry, dearestMove        the most that entering a vertex and a move can cost
 use Prim.Native.Nat.{ℕ, zero, suc, _+_, _-_, _*_, _/_, _%_, _^_, _≤_, _<_}
 use mathlib.Core.Path.{_≡_}
 use mathlib.Core.Bool.{cond}
@@ -74,6 +74,10 @@ pub record GoodTech (t : Tech) : Type 0 where
   pub lines : length (t .lines) ≡ t .grid .layers
   pub goodLines : GoodLines (t .lines)
 
--- no move costs more: a wire or a via, a penalty of entering and one of overhead
+-- no entry costs more: a wire or a via, and a penalty
+abbrev pub dearestEntry : ℕ
+dearestEntry = 1023 + 65534
+
+-- no move costs more: an entry, and what is owed for a segment
 abbrev pub dearestMove : ℕ
-dearestMove = 1023 + 65534 + 65534
+dearestMove = dearestEntry + 65534
