@@ -1,5 +1,7 @@
 // Fields of bits in bytes, most significant bit first. A cursor holds a bit position and moves on by the
 // field's width; a field is read or appended a byte at a time.
+#![tactic(auto)]
+
 ghost use Rattle.std.specs.Prelude.{◌≡◌, ◌+◌, ◌-◌, ◌^◌, ◌<◌};
 ghost use Rattle.bits.specs.Bits.{bits_of, field_bits, field, whole};
 ghost use Rattle.bits.specs.Puts.{put_bits};
@@ -10,13 +12,13 @@ pub mod part;
 use part::{joined, least, part_of, put_part};
 
 // A bit position in bytes.
-#[derive(Drop)]
+#[derive(Clone, Copy)]
 pub struct Cursor {
     pub at: usize,
 }
 
 // A field that was read, and the cursor past it.
-#[derive(Drop)]
+#[derive(Clone, Copy)]
 pub struct FieldRead {
     pub value: usize,
     pub next: Cursor,

@@ -11,13 +11,13 @@ use rules::track::vertex_by;
 use tree::UNJOINED;
 
 // How far the unjoined pins reach along an axis: both ends are inside.
-#[derive(Drop)]
+#[derive(Clone, Copy)]
 pub struct PinSpan {
     pub low: usize,
     pub high: usize,
 }
 
-#[derive(Drop)]
+#[derive(Clone, Copy)]
 pub struct PinBox {
     pub layers: PinSpan,
     pub rows: PinSpan,

@@ -6,7 +6,7 @@ ghost use Rattle.counts.specs.Structs.{plus, over_at, added_of, left_of};
 use crate::moves::{COUNTS, KINDS};
 
 // All were added; or 19 with its place, and none was.
-#[derive(Drop)]
+#[derive(Clone, Copy)]
 pub enum Added {
     Refused(usize, usize),
     Whole,

@@ -1,6 +1,8 @@
 // A heap of numbered items by their distances, in a slice that the caller lends. An item knows its seat, so
 // that its distance can be lowered where it stands. The layout and what each function does are in
 // specs/Heaps.antt.
+#![tactic(auto)]
+
 ghost use Rattle.std.specs.Prelude.{◌<◌};
 ghost use Rattle.heap.specs.Heaps.{greatest_key, Heaped, Lowered, Removed};
 

@@ -3,7 +3,7 @@ ghost use Rattle.std.specs.Prelude.{◌≡◌, ◌<◌};
 ghost use Rattle.job.specs.Grid.{vertices, vertex_number, inside, steps_column, stride_of};
 ghost use Rattle.job.specs.Structs.{Small, InFields, grid_of, vertex_of};
 
-#[derive(Drop)]
+#[derive(Clone, Copy)]
 pub struct Grid {
     pub direction: usize,
     pub layers: usize,
@@ -11,7 +11,7 @@ pub struct Grid {
     pub rows: usize,
 }
 
-#[derive(Drop)]
+#[derive(Clone, Copy)]
 pub struct Vertex {
     pub layer: usize,
     pub row: usize,

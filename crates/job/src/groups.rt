@@ -5,7 +5,7 @@ ghost use Rattle.job.specs.Structs.{head_group, layer_group, vertex_group, obsta
 use crate::grid::{Grid, Vertex};
 use bits::Cursor;
 
-#[derive(Drop)]
+#[derive(Clone, Copy)]
 pub struct Head {
     pub grid: Grid,
     pub guide: usize,
@@ -14,7 +14,7 @@ pub struct Head {
     pub obstacles: usize,
 }
 
-#[derive(Drop)]
+#[derive(Clone, Copy)]
 pub struct Layer {
     pub wire: usize,
     pub via: usize,
@@ -22,13 +22,13 @@ pub struct Layer {
     pub area: usize,
 }
 
-#[derive(Drop)]
+#[derive(Clone, Copy)]
 pub struct Obstacle {
     pub first: Vertex,
     pub run: usize,
 }
 
-#[derive(Drop)]
+#[derive(Clone, Copy)]
 pub struct NetHead {
     pub pins: usize,
     pub boxes: usize,
@@ -36,13 +36,13 @@ pub struct NetHead {
 
 // Both ends are inside. They are bytes, as wide as a job writes them, so that a row's columns can be held
 // against them many at a time.
-#[derive(Drop)]
+#[derive(Clone, Copy)]
 pub struct Span {
     pub low: u8,
     pub high: u8,
 }
 
-#[derive(Drop)]
+#[derive(Clone, Copy)]
 pub struct Box {
     pub layers: Span,
     pub rows: Span,
@@ -50,37 +50,37 @@ pub struct Box {
 }
 
 // The edition, and the rest of the head.
-#[derive(Drop)]
+#[derive(Clone, Copy)]
 pub enum HeadGroup {
     Whole(usize, Head),
     Cut,
 }
 
-#[derive(Drop)]
+#[derive(Clone, Copy)]
 pub enum LayerGroup {
     Whole(Layer),
     Cut,
 }
 
-#[derive(Drop)]
+#[derive(Clone, Copy)]
 pub enum VertexGroup {
     Whole(Vertex),
     Cut,
 }
 
-#[derive(Drop)]
+#[derive(Clone, Copy)]
 pub enum ObstacleGroup {
     Whole(Obstacle),
     Cut,
 }
 
-#[derive(Drop)]
+#[derive(Clone, Copy)]
 pub enum NetGroup {
     Whole(NetHead),
     Cut,
 }
 
-#[derive(Drop)]
+#[derive(Clone, Copy)]
 pub enum BoxGroup {
     Whole(Box),
     Cut,

@@ -1,4 +1,6 @@
 // The job: prices, the grid, and the groups of its bits.
+#![tactic(auto)]
+
 pub mod grid;
 pub mod groups;
 pub mod layers;

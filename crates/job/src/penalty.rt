@@ -2,7 +2,7 @@
 ghost use Rattle.std.specs.Prelude.{◌≡◌};
 ghost use Rattle.job.specs.Structs.{penalty_of};
 
-#[derive(Drop)]
+#[derive(Clone, Copy)]
 pub enum Penalty {
     // It forbids what it prices.
     Closed,

@@ -15,14 +15,14 @@ use search::settle::NONE;
 use walker::Walk;
 
 // The walk of a join and the bit after its record; or none.
-#[derive(Drop)]
+#[derive(Clone, Copy)]
 pub enum Joined {
     None,
     Join(Walk, usize),
 }
 
 // Where the cheapest join starts, and what it costs.
-#[derive(Drop)]
+#[derive(Clone, Copy)]
 pub struct Cheapest {
     pub start: usize,
     pub cost: u64,

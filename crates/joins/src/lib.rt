@@ -1,4 +1,6 @@
 // The join that a search from the tree tells: its moves are counted, written into the plan and walked.
+#![tactic(auto)]
+
 pub mod join;
 pub mod next;
 pub mod record;

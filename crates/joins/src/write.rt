@@ -21,7 +21,7 @@ use search::places::code_of;
 use walker::{Walk, enter_move, walk_from, walk_on};
 
 // Where a route starts, and how many moves it has.
-#[derive(Drop)]
+#[derive(Clone, Copy)]
 pub struct Route {
     pub start: usize,
     pub count: usize,

@@ -1,5 +1,7 @@
 // The program's line, put into a slice that the caller lends: a plan in hexadecimal, a refusal, or `too
 // large`. Each function answers how many bytes it has put. The definitions are in specs/Lines.antt.
+#![tactic(auto)]
+
 ghost use Rattle.std.specs.Prelude.{◌+◌, ◌*◌, ◌≤◌, length, take};
 ghost use Rattle.lines.specs.Lines.{hex_line, refused_line, too_large_line};
 ghost use Rattle.lines.specs.Written.{Written};

@@ -1,4 +1,6 @@
 // Obstacles and nets, read with what occupies each vertex.
+#![tactic(auto)]
+
 pub mod nets;
 pub mod obstacles;
 pub mod reached;

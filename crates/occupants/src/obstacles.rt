@@ -17,7 +17,7 @@ pub const OBSTACLE: u8 = 1;
 
 pub const PIN: u8 = 2;
 
-#[derive(Drop)]
+#[derive(Clone, Copy)]
 pub enum ObstacleRead {
     Good(Obstacle),
     Refused(usize, usize),

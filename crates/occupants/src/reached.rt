@@ -1,7 +1,7 @@
 // How far reading has come.
 
 // A bit position, or a refusal with its place.
-#[derive(Drop)]
+#[derive(Clone, Copy)]
 pub enum Reached {
     At(usize),
     Refused(usize, usize),

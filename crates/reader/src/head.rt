@@ -6,7 +6,7 @@ ghost use Rattle.reader.specs.Structs.{head_read};
 
 use job::groups::{Head, HeadGroup, head_group};
 
-#[derive(Drop)]
+#[derive(Clone, Copy)]
 pub enum HeadRead {
     Good(Head),
     Refused(usize, usize),

@@ -9,14 +9,14 @@ use job::groups::{Layer, LayerGroup, layer_group};
 use job::layers::Layers;
 use occupants::reached::Reached;
 
-#[derive(Drop)]
+#[derive(Clone, Copy)]
 pub enum LayerRead {
     Good(Layer),
     Refused(usize, usize),
 }
 
 // How far reading came, and the lines, which are 0 after a refusal.
-#[derive(Drop)]
+#[derive(Clone, Copy)]
 pub struct LayersRead {
     pub reached: Reached,
     pub layers: Layers,

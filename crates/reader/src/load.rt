@@ -10,7 +10,7 @@ use job::grid::Grid;
 use job::groups::{Box, BoxGroup, NetGroup, VertexGroup, box_group, net_group, vertex_group};
 
 // How many pins and boxes were loaded, and the bit after the net.
-#[derive(Drop)]
+#[derive(Clone, Copy)]
 pub struct NetLoaded {
     pub pins: usize,
     pub boxes: usize,

@@ -19,7 +19,7 @@ use occupants::obstacles::read_obstacles;
 use occupants::reached::Reached;
 
 // How far reading came, with the head and the layer lines, which are 0 after a refusal.
-#[derive(Drop)]
+#[derive(Clone, Copy)]
 pub struct JobRead {
     pub reached: Reached,
     pub head: Head,

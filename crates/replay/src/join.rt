@@ -17,7 +17,7 @@ use rules::price::Tech;
 use walker::Walk;
 
 // The walk of a join, and the bit after it.
-#[derive(Drop)]
+#[derive(Clone, Copy)]
 pub enum JoinRead {
     Refused(usize, usize),
     Joined(Walk, usize),

@@ -12,7 +12,7 @@ use rules::price::Tech;
 use rules::step::{Made, Place, Stepped, step};
 use tree::UNJOINED;
 
-#[derive(Drop)]
+#[derive(Clone, Copy)]
 pub enum Judged {
     Refused(usize, usize),
     Good(Made),

@@ -16,7 +16,7 @@ use rules::price::Tech;
 use rules::track::vertex_by;
 use walker::{Walk, enter_move, walk_from, walk_on};
 
-#[derive(Drop)]
+#[derive(Clone, Copy)]
 pub enum MovesRead {
     Refused(usize, usize),
     Walked(Walk),

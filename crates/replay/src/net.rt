@@ -19,7 +19,7 @@ use tree::some_unjoined;
 use walker::NetAtHand;
 
 // The bit before a record.
-#[derive(Drop)]
+#[derive(Clone, Copy)]
 pub enum Flag {
     Cut,
     None,
@@ -27,7 +27,7 @@ pub enum Flag {
 }
 
 // The totals after a net's records, and the next bit.
-#[derive(Drop)]
+#[derive(Clone, Copy)]
 pub enum NetRead {
     Refused(usize, usize),
     Ended(Totals, usize),

@@ -12,7 +12,7 @@ use occupants::reached::Reached;
 use tree::ON_TREE;
 
 // The start vertex and the number of moves.
-#[derive(Drop)]
+#[derive(Clone, Copy)]
 pub enum StartRead {
     Refused(usize, usize),
     At(usize, usize),

@@ -18,7 +18,7 @@ use metal::zeros::zero_codes;
 use rules::price::Tech;
 use rules::totals::Totals;
 
-#[derive(Drop)]
+#[derive(Clone, Copy)]
 pub enum Replayed {
     Refused(usize, usize),
     Good(Totals),

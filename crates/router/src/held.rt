@@ -9,7 +9,7 @@ use reader::layers::largest_least;
 use rules::price::Tech;
 
 // Its layers, its needs, how many nets it has and at which bit they begin.
-#[derive(Drop)]
+#[derive(Clone, Copy)]
 pub(crate) struct Held {
     pub tech: Tech,
     pub vertices: usize,
@@ -42,7 +42,7 @@ pub(crate) fn held_of(head: Head, layers: Layers) -> Held
 }
 
 // Both slices are long enough; or 12 or 13 with the need.
-#[derive(Drop)]
+#[derive(Clone, Copy)]
 pub(crate) enum Room {
     Enough,
     Short(usize, usize),

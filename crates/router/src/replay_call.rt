@@ -12,7 +12,7 @@ use replay::whole::{Replayed, replay_plan};
 
 // On a refusal every number but it and its place is 0.
 #[repr(C)]
-#[derive(Drop)]
+#[derive(Clone, Copy)]
 pub struct ReplayResult {
     pub refusal: usize,
     pub place: usize,
@@ -108,8 +108,7 @@ pub(crate) fn replay_counted(
 }
 
 // The counts are the report's: replay drops them.
-#[unsafe(no_mangle)]
-pub extern "C" fn maizespell_replay(
+pub fn maizespell_replay(
     bytes: &[u8],
     plan: &[u8],
     map: &mut [u16],

@@ -21,8 +21,7 @@ fn report_counts(report: &mut [u64], counts: &[usize; 48], res: ReplayResult) ->
     }
 }
 
-#[unsafe(no_mangle)]
-pub extern "C" fn maizespell_report(
+pub fn maizespell_report(
     bytes: &[u8],
     plan: &[u8],
     map: &mut [u16],

@@ -17,7 +17,7 @@ use rules::totals::Totals;
 
 // On a refusal every number but it and its place is 0.
 #[repr(C)]
-#[derive(Drop)]
+#[derive(Clone, Copy)]
 pub struct RoutingResult {
     pub refusal: usize,
     pub place: usize,
@@ -101,8 +101,7 @@ fn route_job(
     }
 }
 
-#[unsafe(no_mangle)]
-pub extern "C" fn maizespell_routing(
+pub fn maizespell_routing(
     bytes: &[u8],
     map: &mut [u16],
     work: &mut [u64],

@@ -8,7 +8,7 @@ use reader::whole::read_job;
 
 // The refusal is 0 where the job is good, and so is its place; else vertices and work are 0.
 #[repr(C)]
-#[derive(Drop)]
+#[derive(Clone, Copy)]
 pub struct SizingResult {
     pub refusal: usize,
     pub place: usize,
@@ -16,8 +16,7 @@ pub struct SizingResult {
     pub work: usize,
 }
 
-#[unsafe(no_mangle)]
-pub extern "C" fn maizespell_sizing(bytes: &[u8]) -> SizingResult
+pub fn maizespell_sizing(bytes: &[u8]) -> SizingResult
     ensures { result ≡ sizing_of bytes.now }
 {
     let mut occupants = [0u8; 16384];

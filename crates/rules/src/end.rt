@@ -10,7 +10,7 @@ use crate::track::{Track, next_toward, room_toward};
 use bits::part::least;
 
 // An end: its vertex, the direction that leads on from it, and how many steps the track goes on there.
-#[derive(Drop)]
+#[derive(Clone, Copy)]
 pub struct End {
     pub vertex: usize,
     pub toward: Direction,

@@ -1,4 +1,6 @@
 // The rules of moves and prices.
+#![tactic(auto)]
+
 pub mod end;
 pub mod list;
 pub mod overhead;

@@ -22,7 +22,7 @@ use job::penalty::Penalty;
 
 // So many vertices become metal beyond the last vertex of the segment that is left, and so many beyond its
 // first.
-#[derive(Drop)]
+#[derive(Clone, Copy)]
 pub struct Extension {
     pub leaving: usize,
     pub starting: usize,
@@ -37,7 +37,7 @@ pub fn no_extension() -> Extension
     }
 }
 
-#[derive(Drop)]
+#[derive(Clone, Copy)]
 pub enum Overhead {
     Nothing,
     // So many steps are missing, and the extension makes up for them.

@@ -14,7 +14,7 @@ use job::penalty::Penalty;
 
 // What a job says of its layers: the grid, the layer lines with the largest M, and the fields of the two
 // penalties.
-#[derive(Drop)]
+#[derive(Clone, Copy)]
 pub struct Tech {
     pub grid: Grid,
     pub layers: Layers,

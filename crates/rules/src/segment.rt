@@ -4,14 +4,14 @@ ghost use Rattle.rules.specs.Segments.{of_length, against, not_against, grow};
 ghost use Rattle.rules.specs.Overheads.{toward};
 ghost use Rattle.rules.specs.Structs.{Short, direction_of, opposite_to, segment_of, heading_of, steps_of, grown_of};
 
-#[derive(Drop)]
+#[derive(Clone, Copy)]
 pub enum Direction {
     Low,
     High,
 }
 
 // A paid segment has a direction once it has made a step.
-#[derive(Drop)]
+#[derive(Clone, Copy)]
 pub enum Segment {
     Fresh,
     Running(Direction, usize),
@@ -20,7 +20,7 @@ pub enum Segment {
 }
 
 // What a step makes of a segment, or that it would go back.
-#[derive(Drop)]
+#[derive(Clone, Copy)]
 pub enum Grown {
     Back,
     To(Segment),

@@ -19,14 +19,14 @@ use job::groups::Layer;
 use job::penalty::Penalty;
 
 // A vertex with the segment that is being made there.
-#[derive(Drop)]
+#[derive(Clone, Copy)]
 pub struct Place {
     pub vertex: usize,
     pub segment: Segment,
 }
 
 // The vertex that a move enters with the price of entering it; or that it enters none.
-#[derive(Drop)]
+#[derive(Clone, Copy)]
 pub enum Entry {
     Shut,
     Open(usize, usize),
@@ -60,7 +60,7 @@ pub fn entry_of(
 
 // What a legal move did: where it led, the price of entering, and the overhead with its extension and the
 // steps that were missing.
-#[derive(Drop)]
+#[derive(Clone, Copy)]
 pub struct Made {
     pub next: Place,
     pub enter: usize,
@@ -70,7 +70,7 @@ pub struct Made {
     pub penalties: usize,
 }
 
-#[derive(Drop)]
+#[derive(Clone, Copy)]
 pub enum Stepped {
     Illegal,
     Legal(Made),

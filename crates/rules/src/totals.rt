@@ -1,7 +1,7 @@
 // The running totals, lent from join to join.
 ghost use Rattle.std.specs.Prelude.{◌≡◌, ◌+◌, ◌<◌, ◌^◌};
 
-#[derive(Drop)]
+#[derive(Clone, Copy)]
 pub struct Totals {
     pub cost: usize,
     pub added: usize,

@@ -8,14 +8,14 @@ ghost use Rattle.rules.specs.Structs.{OnGrid, entered_of, track_of, direction_of
 use crate::segment::Direction;
 use job::grid::{Grid, Vertex};
 
-#[derive(Drop)]
+#[derive(Clone, Copy)]
 pub enum Entered {
     Outside,
     At(usize),
 }
 
 // Where a vertex lies on its track, how long the track is, and what a step high adds to the vertex's number.
-#[derive(Drop)]
+#[derive(Clone, Copy)]
 pub struct Track {
     pub index: usize,
     pub length: usize,
@@ -75,7 +75,7 @@ fn higher(there: bool, v: usize, by: usize) -> Entered
 }
 
 // What a move does: a step along the track in a direction, or a via to the layer below or above.
-#[derive(Drop)]
+#[derive(Clone, Copy)]
 pub enum Kind {
     Along(Direction),
     Down,

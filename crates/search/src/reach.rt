@@ -25,14 +25,14 @@ use rules::track::vertex_by;
 use tree::UNJOINED;
 
 // The heap's size, and the cost of the cheapest goal found.
-#[derive(Drop)]
+#[derive(Clone, Copy)]
 pub struct Front {
     pub size: usize,
     pub best: u64,
 }
 
 // The same, and what a via owes, while the moves of a place are tried.
-#[derive(Drop)]
+#[derive(Clone, Copy)]
 pub struct Reaching {
     pub front: Front,
     pub owed: usize,

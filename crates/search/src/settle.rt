@@ -20,7 +20,7 @@ use rules::price::Tech;
 pub const NONE: u64 = 1099511627775;
 
 // The heap's size, how many places are settled, and the cost of the cheapest goal found.
-#[derive(Drop)]
+#[derive(Clone, Copy)]
 pub struct Found {
     pub size: usize,
     pub settled: usize,

@@ -3,7 +3,7 @@ use job::grid::Vertex;
 use rules::step::Place;
 
 // The place, the coordinates of its vertex, and its cost.
-#[derive(Drop)]
+#[derive(Clone, Copy)]
 pub struct Settled {
     pub place: Place,
     pub vertex: Vertex,

@@ -28,14 +28,14 @@ pub const UNASKED: usize = 65_536;
 
 // Where a move leads, and its price with the overhead; or that it leads nowhere, or would lower nothing
 // there.
-#[derive(Drop)]
+#[derive(Clone, Copy)]
 pub enum Tried {
     Stopped,
     To(Place, usize),
 }
 
 // A move that was tried, and what a via owes.
-#[derive(Drop)]
+#[derive(Clone, Copy)]
 pub struct Attempt {
     pub tried: Tried,
     pub owed: usize,

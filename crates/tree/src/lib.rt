@@ -1,4 +1,6 @@
 // The tree and the unjoined pins of the net at hand: a byte for each vertex.
+#![tactic(auto)]
+
 ghost use Rattle.std.specs.Prelude.{◌≡◌, take};
 ghost use Rattle.tree.specs.Spots.{Pins, put_all, begun_spots, some_unjoined};
 

@@ -1,5 +1,7 @@
 // Walking a join's moves: what each enters becomes metal and tree, and their cost is counted. Replay and
 // routing share it.
+#![tactic(auto)]
+
 ghost use Rattle.std.specs.Prelude.{◌≡◌, [], ◌∷◌, ◌++◌, ◌<◌, ◌≤◌, ◌^◌, length, set};
 ghost use Rattle.job.specs.Grid.{vertices};
 ghost use Rattle.job.specs.Structs.{Sized, grid_of};
@@ -14,7 +16,7 @@ use rules::step::{Made, Place};
 use tree::ON_TREE;
 
 // Where the moves so far have led, and what they cost.
-#[derive(Drop)]
+#[derive(Clone, Copy)]
 pub struct Walk {
     pub place: Place,
     pub cost: usize,
@@ -23,7 +25,7 @@ pub struct Walk {
 }
 
 // The number of the net at hand, counted from 1, and how many pins it has.
-#[derive(Drop)]
+#[derive(Clone, Copy)]
 pub struct NetAtHand {
     pub number: u16,
     pub pins: usize,
