@@ -1,0 +1,22 @@
+-- `bounds::bound::sum_along` meets its contract.
+use mathlib.Core.Path.{refl, ◌∙◌}
+use native.Mathlib.Omega.{arith}
+use borrow.Author.Rules.{rules}
+use Rattle.bounds.proofs.Coordinates.{next_few}
+use Rattle.bounds.proofs.bound.sum_along.Goals as goal
+
+pub sum_at-requires : goal.sum_at-requires
+sum_at-requires c =
+    let pre = c.requires in
+    (pre.0, omega (arith, pre.2), next_few _ _ c.next_toward.ensures (omega (arith, pre.4)), pre.5)
+
+pub sum_at-requires-else-columns : goal.sum_at-requires-else-columns
+sum_at-requires-else-columns c =
+    let pre = c.requires in
+    (pre.0, next_few _ _ c.next_toward-else-columns.ensures (omega (arith, pre.2)), omega (arith, pre.4), pre.5)
+
+pub returns-then-columns : goal.returns-then-columns
+returns-then-columns c = rw c.if-columns.true (c.sum_at.ensures ∙ rw c.next_toward.ensures refl)
+
+pub returns-else-columns : goal.returns-else-columns
+returns-else-columns c = rw c.if-columns.false (c.sum_at-else-columns.ensures ∙ rw c.next_toward-else-columns.ensures refl)

@@ -1,0 +1,17 @@
+-- `bounds::fill::unjoined_box` meets its contract: the box of the unjoined ones of the pins below.
+use Prim.Native.Nat.{◌-◌, ◌≤◌}
+use mathlib.Core.Path.{◌≡◌, refl}
+use mathlib.Core.Logic.{⊎_elim}
+use native.Mathlib.Omega.{arith}
+use borrow.Author.Rules.{rules}
+use Rattle.job.specs.Structs.{grid_of}
+use Rattle.tree.proofs.Turns.{pin_vertex}
+use Rattle.bounds.specs.Fills.{unjoined_box}
+use Rattle.bounds.proofs.Boxes.{pin_on_grid, box_turn, box_kept}
+use Rattle.bounds.proofs.fill.unjoined_box.Given as goal
+
+abbrev pub invariant-loop-i : goal.invariant-loop-i
+invariant-loop-i l = (l.i ≤ l.count) × (l.around ≡ unjoined_box (grid_of l.grid) l.spots l.pins l.i)
+
+abbrev pub decreases-loop-i : goal.decreases-loop-i
+decreases-loop-i l = l.count - l.i

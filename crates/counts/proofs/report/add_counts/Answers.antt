@@ -1,0 +1,21 @@
+-- `counts::report::add_counts` meets its contract: the report is short, a count is too large, or all are
+-- added.
+use borrow.Author.Rules.{rules}
+use Rattle.counts.proofs.Reporting.{none_fits, room_short, room_over, room_whole}
+use Rattle.counts.proofs.report.add_counts.Goals as goal
+
+pub returns-then-report-lt-COUNTS : goal.returns-then-report-lt-COUNTS
+returns-then-report-lt-COUNTS c = room_short _ _ c.if-report-lt-COUNTS.true
+
+pub returns-then-over-lt-COUNTS : goal.returns-then-over-lt-COUNTS
+returns-then-over-lt-COUNTS c = room_over _ _ c.if-report-lt-COUNTS.false c.first_over-over.ensures c.if-over-lt-COUNTS.true
+
+pub add_all-requires : goal.add_all-requires
+add_all-requires c =
+    let long = c.if-report-lt-COUNTS.false in
+    (long, c.requires, none_fits _ _ _ long c.first_over-over.ensures c.if-over-lt-COUNTS.false)
+
+pub returns : goal.returns
+returns c =
+    room_whole _ _ c.if-report-lt-COUNTS.false c.first_over-over.ensures
+    c.if-over-lt-COUNTS.false c.add_all.ensures

@@ -1,0 +1,15 @@
+-- `job::grid::Grid::stride` meets its contract.
+use mathlib.Core.Path.{sym, ◌∙◌}
+use Rattle.job.specs.Grid.{stride_of}
+use Rattle.job.proofs.grid.Grid.stride.Goals as goal
+
+pub steps_column-requires : goal.steps_column-requires
+steps_column-requires c = c.requires
+
+pub returns-then-steps_column : goal.returns-then-steps_column
+unfolding stride_of
+returns-then-steps_column c = rw (sym c.steps_column.ensures ∙ c.if-steps_column.true)
+
+pub returns-else-steps_column : goal.returns-else-steps_column
+unfolding stride_of
+returns-else-steps_column c = rw (sym c.steps_column.ensures ∙ c.if-steps_column.false)

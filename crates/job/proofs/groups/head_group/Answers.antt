@@ -1,0 +1,85 @@
+-- `job::groups::head_group` meets its contract: the nine fields follow each other in the group's 80 bits.
+use native.Mathlib.Numerals.{add-one}
+use native.Mathlib.Omega.{arith}
+use Rattle.job.specs.Reading.{head_at}
+use Rattle.job.specs.Structs.{head_group}
+use Rattle.job.proofs.Fields.{is_whole, is_cut, Left, all_left, past, room, value_below}
+use Rattle.job.proofs.groups.head_group.Goals as goal
+
+pub whole-requires : goal.whole-requires
+whole-requires c = omega arith
+
+pub returns-then-not-whole : goal.returns-then-not-whole
+unfolding head_group
+returns-then-not-whole c = rw (is_cut 80 _ _ c.whole.ensures c.if-not-whole.true-raw)
+
+-- all bits of the head, where it is whole
+all : (c : tie.Else1) → Left c.before.before.before.args.s.now 0 80
+all c = all_left 80 (is_whole 80 _ _ c.before.whole.ensures c.if1.false) (omega arith)
+
+pub field-edition-requires : goal.field-edition-requires
+field-edition-requires c = room tt (all c)
+
+pub field-direction-requires : goal.field-direction-requires
+field-direction-requires c = room tt (past 4 tt c.field-edition.ensures (all c))
+
+-- what is left past the edition and the direction
+past_direction : (c : tie.After-field2) → Left c.before.before.before.before.before.args.s.now c.field2.result.next.at 75
+past_direction c = past 1 tt c.field2.ensures (past 4 tt c.before.field.ensures (all c.before.before))
+
+pub field-layers-requires : goal.field-layers-requires
+field-layers-requires c = room tt (past_direction c)
+
+pub field-columns-requires : goal.field-columns-requires
+field-columns-requires c = room tt (past 3 tt c.field-layers.ensures (past_direction c))
+
+pub field-rows-requires : goal.field-rows-requires
+field-rows-requires c = room tt (past 8 tt c.field-columns.ensures (past 3 tt c.field-layers.ensures (past_direction c)))
+
+-- what is left past the grid
+past_grid : (c : tie.After-field5) → Left c.before.before.before.before.before.before.before.before.args.s.now c.field5.result.next.at 56
+past_grid c =
+    past 8 tt c.field5.ensures (past 8 tt c.before.field4.ensures (past 3 tt c.before.before.field3.ensures (past_direction c.before.before.before)))
+
+pub field-guide-requires : goal.field-guide-requires
+field-guide-requires c = room tt (past_grid c)
+
+pub field-short-requires : goal.field-short-requires
+field-short-requires c = room tt (past 16 tt c.field-guide.ensures (past_grid c))
+
+-- what is left past the penalties
+past_penalties : (c : tie.After-field7)
+    → Left c.before.before.before.before.before.before.before.before.before.before.args.s.now c.field7.result.next.at 24
+past_penalties c = past 16 tt c.field7.ensures (past 16 tt c.before.field6.ensures (past_grid c.before.before))
+
+pub field-nets-requires : goal.field-nets-requires
+field-nets-requires c = room tt (past_penalties c)
+
+pub field-obstacles-requires : goal.field-obstacles-requires
+field-obstacles-requires c = room tt (past 8 tt c.field-nets.ensures (past_penalties c))
+
+pub overflow_add-grid : goal.overflow_add-grid
+overflow_add-grid c = omega (arith, value_below _ _ 3 c.field-layers.ensures)
+
+pub overflow_add-grid-2 : goal.overflow_add-grid-2
+overflow_add-grid-2 c = omega (arith, value_below _ _ 8 c.field-columns.ensures)
+
+pub overflow_add-grid-3 : goal.overflow_add-grid-3
+overflow_add-grid-3 c = omega (arith, value_below _ _ 8 c.field-rows.ensures)
+
+pub returns : goal.returns
+unfolding head_group head_at
+returns c =
+    rw (
+      is_whole 80 _ _ c.whole.ensures c.if-not-whole.false-raw,
+      c.field-obstacles.ensures,
+      c.field-nets.ensures,
+      c.field-short.ensures,
+      c.field-guide.ensures,
+      c.field-rows.ensures,
+      c.field-columns.ensures,
+      c.field-layers.ensures,
+      c.field-direction.ensures,
+      c.field-edition.ensures,
+    )
+    (simp add-one)

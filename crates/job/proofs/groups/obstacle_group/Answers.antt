@@ -1,0 +1,48 @@
+-- `job::groups::obstacle_group` meets its contract: the four fields follow each other in the group's 27 bits.
+use borrow.Author.Rules.{rules}
+use native.Mathlib.Nat.{add_assoc}
+use native.Mathlib.Numerals.{add-one}
+use native.Mathlib.Omega.{arith}
+use Rattle.job.specs.Reading.{obstacle_at, vertex_at}
+use Rattle.job.specs.Structs.{obstacle_group}
+use Rattle.job.proofs.Fields.{is_whole, is_cut, Left, all_left, past, room, value_below}
+use Rattle.job.proofs.groups.obstacle_group.Goals as goal
+
+pub returns-then-not-whole : goal.returns-then-not-whole
+unfolding obstacle_group
+returns-then-not-whole c = rw (is_cut 27 _ _ c.whole.ensures c.if-not-whole.true-raw)
+
+-- all bits of the group, where it is whole
+all : (c : tie.Else1) → (let args = c.before.before.before.args in Left args.s.now args.at 27)
+all c = all_left 27 (is_whole 27 _ _ c.before.whole.ensures c.if1.false) (omega arith)
+
+pub field-layer-requires : goal.field-layer-requires
+field-layer-requires c = room tt (all c)
+
+pub field-row-requires : goal.field-row-requires
+field-row-requires c = room tt (past 3 tt c.field-layer.ensures (all c))
+
+-- what is left past the row
+past_row : (c : tie.After-field2) → Left c.before.before.before.before.before.args.s.now c.field2.result.next.at 16
+past_row c = past 8 tt c.field2.ensures (past 3 tt c.before.field.ensures (all c.before.before))
+
+pub field-column-requires : goal.field-column-requires
+field-column-requires c = room tt (past_row c)
+
+pub field-run-requires : goal.field-run-requires
+field-run-requires c = room tt (past 8 tt c.field-column.ensures (past_row c))
+
+pub overflow_add-result : goal.overflow_add-result
+overflow_add-result c = omega (arith, value_below _ _ 8 c.field-run.ensures)
+
+pub returns : goal.returns
+unfolding obstacle_group obstacle_at vertex_at
+returns c =
+    rw (
+      is_whole 27 _ _ c.whole.ensures c.if-not-whole.false-raw,
+      c.field-run.ensures,
+      c.field-column.ensures,
+      c.field-row.ensures,
+      c.field-layer.ensures,
+    )
+    (simp (add_assoc, add-one))

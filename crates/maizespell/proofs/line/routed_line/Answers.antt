@@ -1,0 +1,24 @@
+-- `maizespell::line::routed_line` meets its contract: routing is refused, or its plan is written and has
+-- room.
+use borrow.Author.Rules.{rules}
+use native.Mathlib.Omega.{arith}
+use Rattle.maizespell.proofs.Cases.{routed_refused, routed_plan, routed_room}
+use Rattle.maizespell.proofs.line.routed_line.Goals as goal
+
+pub returns-then-routed-ne0 : goal.returns-then-routed-ne0
+returns-then-routed-ne0 c =
+    let bytes = c.args.bytes.now in
+    let routed = c.maizespell_routing-routed in
+    rw (routed_refused bytes routed.result routed.ensures.0 c.if-routed-ne0.true) c.put_refused_line.ensures
+
+pub put_hex_line-requires : goal.put_hex_line-requires
+put_hex_line-requires c =
+    let bytes = c.args.bytes.now in
+    let routed = c.maizespell_routing-routed in
+    omega (arith, routed_room bytes routed.result routed.ensures.0)
+
+pub returns : goal.returns
+returns c =
+    let bytes = c.args.bytes.now in
+    let routed = c.maizespell_routing-routed in
+    rw (routed_plan bytes routed.result routed.ensures.0 _ routed.ensures.1.1.1.0 c.if-routed-ne0.false) c.put_hex_line.ensures

@@ -1,0 +1,14 @@
+-- `occupants::nets::read_boxes` meets its contract: reading the boxes that are left is reading all of them.
+use mathlib.Core.Path.{sym, ◌∙◌}
+use native.Mathlib.Omega.{arith}
+use borrow.Author.Rules.{rules}
+use Rattle.bits.specs.Bits.{bits_of}
+use Rattle.job.specs.Structs.{grid_of}
+use Rattle.occupants.proofs.BoxTurns.{BoxesLeft, boxes_all, boxes_next, boxes_refused, boxes_done}
+use Rattle.occupants.proofs.nets.read_boxes.Given as goal
+
+abbrev pub invariant-loop-left : goal.invariant-loop-left
+invariant-loop-left l = BoxesLeft (bits_of l.s) (grid_of l.grid) l.count l.from l.left l.at
+
+abbrev pub decreases-loop-left : goal.decreases-loop-left
+decreases-loop-left l = l.left

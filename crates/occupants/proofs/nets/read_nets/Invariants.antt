@@ -1,0 +1,13 @@
+-- `occupants::nets::read_nets` meets its contract: reading the nets that are left is reading all of them.
+use native.Mathlib.Omega.{arith}
+use borrow.Author.Rules.{rules}
+use Rattle.job.specs.Structs.{grid_of}
+use Rattle.occupants.proofs.Answers.{told_at, told_refused}
+use Rattle.occupants.proofs.NetTurns.{NetsLeft, nets_all, nets_next, nets_refused, nets_done}
+use Rattle.occupants.proofs.nets.read_nets.Given as goal
+
+abbrev pub invariant-loop-left : goal.invariant-loop-left
+invariant-loop-left l = NetsLeft l.s (grid_of l.grid) l.count l.from l.initial.occupants l.left l.at l.occupants
+
+abbrev pub decreases-loop-left : goal.decreases-loop-left
+decreases-loop-left l = l.left

@@ -1,0 +1,48 @@
+-- `reader::head::read_head` meets its contract: what the group of the head holds decides each rule.
+use borrow.Author.Rules.{rules}
+use borrow.Author.Tests.{eq-eqb, ne_eqb, le-leb, lt-leb}
+use mathlib.Core.Path.{◌≡◌, sym, ap, ◌∙◌}
+use Rattle.bits.specs.Bits.{bits_of}
+use Rattle.job.specs.Grid.{vertices}
+use Rattle.job.specs.Reading.{read_head, head_at, ◌>>◌, rule}
+use Rattle.reader.specs.Structs.{head_read}
+use Rattle.job.specs.Structs.{grid_of}
+use Rattle.job.specs.declared.groups.Head.{Head}
+use Rattle.reader.specs.declared.head.HeadRead.{HeadRead}
+use Rattle.reader.proofs.Heads.{cut_head, WholeHead, whole_head, head_small}
+use Rattle.reader.proofs.head.read_head.Goals as goal
+
+pub returns-in_default : goal.returns-in_default
+unfolding read_head ◌>>◌ rule head_read
+returns-in_default c = rw (cut_head _ (sym c.head_group.ensures ∙ c.in_default.is))
+
+-- what the head's group holds where it is whole
+held : (c : tie.After-edition) → WholeHead c.before.before.before.before.args.s.now c.edition.given.0.0 c.edition.given.0.1.0
+held c = whole_head _ _ _ (sym c.before.before.head-group.ensures ∙ c.edition.given.1)
+
+pub returns-then-edition-ne1 : goal.returns-then-edition-ne1
+unfolding read_head ◌>>◌ rule head_read
+returns-then-edition-ne1 c =
+    let h = held c in
+    rw (h.whole, ← h.edition, ne_eqb _ 1 c.if-edition-ne1.true)
+
+pub vertices-requires : goal.vertices-requires
+vertices-requires c = rw (held c).head (head_small _)
+
+-- the number of vertices is that of the head's grid
+counted : (c : tie.After-vertices)
+    → c.vertices.result ≡ vertices (head_at (bits_of c.before.before.before.before.before.before.before.args.s.now) 0).grid
+counted c = c.vertices.ensures ∙ ap (λ (h : Head). vertices (grid_of h.grid)) (held c.before.before.before).head
+
+pub returns-then-vertices-gt16384 : goal.returns-then-vertices-gt16384
+unfolding read_head ◌>>◌ rule head_read
+returns-then-vertices-gt16384 c =
+    let h = held c in
+    rw (h.whole, ← h.edition, eq-eqb _ 1 c.if-edition-ne1.false, ← (counted c), lt-leb _ 16384 c.if-vertices-gt16384.true)
+
+pub returns : goal.returns
+unfolding read_head ◌>>◌ rule head_read
+returns c =
+    let h = held c in
+    rw (h.whole, ← h.edition, eq-eqb _ 1 c.if-edition-ne1.false, ← (counted c), le-leb _ 16384 c.if-vertices-gt16384.false)
+    (ap HeadRead.Good h.head)

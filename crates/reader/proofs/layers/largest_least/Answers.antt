@@ -1,0 +1,44 @@
+-- `reader::layers::largest_least` meets its contract.
+use Prim.Native.Nat.{◌-◌, ◌<◌, ◌≤◌, max}
+use mathlib.Core.Path.{◌≡◌, sym, ◌∙◌}
+use mathlib.Core.Logic.{⊎_elim}
+use native.Mathlib.Omega.{arith}
+use lib.ListN.{length, drop}
+use Rattle.reader.specs.Structs.{largest_in}
+use Rattle.reader.proofs.Lines.{largest_turn, largest_done}
+use Rattle.reader.proofs.layers.largest_least.Goals as goal
+
+pub loop-layer-init : goal.loop-layer-init
+loop-layer-init c = omega arith
+
+pub offset_bounds-least-layer : goal.offset_bounds-least-layer
+offset_bounds-least-layer c = omega arith
+
+pub bounds-least-layer : goal.bounds-least-layer
+bounds-least-layer c = omega arith
+
+pub offset_bounds-least-layer-then-largest-least : goal.offset_bounds-least-layer-then-largest-least
+offset_bounds-least-layer-then-largest-least c = omega arith
+
+pub bounds-least-layer-then-largest-least : goal.bounds-least-layer-then-largest-least
+bounds-least-layer-then-largest-least c = omega arith
+
+pub overflow_step-layer : goal.overflow_step-layer
+overflow_step-layer c = omega arith
+
+pub loop-layer-smaller : goal.loop-layer-smaller
+loop-layer-smaller c = omega arith
+
+pub loop-layer-preserved : goal.loop-layer-preserved
+loop-layer-preserved c =
+    let least = c.args.layers.least in
+    let here = c.loop-layer in
+    let more : here.layer < length least = omega (arith, c.requires, c.loop-layer-test.true) in
+    let turn = largest_turn least here.layer here.largest more in
+    ⊎_elim (λ w. omega (arith, turn, here.invariant, w.0.taken, w.1)) (λ w. omega (arith, turn, here.invariant, w.0.left, w.1)) c.if-largest-least.branch
+
+pub returns : goal.returns
+returns c =
+    let least = c.args.layers.least in
+    let done : length least ≤ c.loop-layer.layer = omega (arith, c.requires, c.loop-layer-test.false) in
+    sym (largest_done least c.loop-layer.layer c.loop-layer.largest done) ∙ c.loop-layer.invariant

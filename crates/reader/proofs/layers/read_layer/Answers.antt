@@ -1,0 +1,27 @@
+-- `reader::layers::read_layer` meets its contract: each way out is one of the line's rules.
+use mathlib.Core.Path.{sym, ◌∙◌}
+use borrow.Author.Rules.{rules}
+use borrow.Author.Tests.{not-true, not-false}
+use Rattle.reader.proofs.Lines.{layer_cut, line_rules}
+use Rattle.reader.proofs.layers.read_layer.Goals as goal
+
+pub returns-in_default : goal.returns-in_default
+returns-in_default c = sym (layer_cut _ _ _ (sym c.layer_group.ensures ∙ c.in_default.is))
+
+pub returns-then-line-lt1 : goal.returns-then-line-lt1
+returns-then-line-lt1 c = sym ((line_rules _ _ _ _ (sym c.layer_group.ensures ∙ c.in-Whole.is)).wire c.if-line-lt1.true)
+
+pub returns-then-not-via_rule : goal.returns-then-not-via_rule
+returns-then-not-via_rule c =
+    sym ((line_rules _ _ _ _ (sym c.layer_group.ensures ∙ c.in-Whole.is)).via c.if-line-lt1.false
+    (sym c.via_rule.ensures ∙ c.if-not-via_rule.true))
+
+pub returns-then-line-lt1-2 : goal.returns-then-line-lt1-2
+returns-then-line-lt1-2 c =
+    sym ((line_rules _ _ _ _ (sym c.layer_group.ensures ∙ c.in-Whole.is)).least c.if-line-lt1.false
+    (sym c.via_rule.ensures ∙ c.if-not-via_rule.false) c.if-line-lt1-2.true)
+
+pub returns : goal.returns
+returns c =
+    sym ((line_rules _ _ _ _ (sym c.layer_group.ensures ∙ c.in-Whole.is)).fine c.if-line-lt1.false
+    (sym c.via_rule.ensures ∙ c.if-not-via_rule.false) c.if-line-lt1-2.false)

@@ -1,0 +1,24 @@
+-- `reader::whole::read_job` meets its contract: the bytes are too many, the head is refused, or what follows
+-- it decides.
+use mathlib.Core.Path.{sym, ◌∙◌}
+use borrow.Author.Rules.{rules}
+use Rattle.reader.proofs.AfterHead.{told_refused_job}
+use Rattle.reader.proofs.Heads.{job_too_long, job_head_refused, job_past_head}
+use Rattle.reader.proofs.whole.read_job.Goals as goal
+
+pub returns-then-s-gt262144 : goal.returns-then-s-gt262144
+returns-then-s-gt262144 c = told_refused_job _ _ (job_too_long _ c.if-s-gt262144.true) c.refused_job.ensures
+
+pub read_after_head-requires : goal.read_after_head-requires
+read_after_head-requires c =
+    let fits = c.if-s-gt262144.false in
+    let h = job_past_head _ _ fits (sym c.read_head-read.ensures ∙ c.in-Good.is) in
+    ((fits, h.sized, h.nets, h.obstacles), c.requires)
+
+pub returns-in-Good : goal.returns-in-Good
+returns-in-Good c =
+    let h = job_past_head _ _ c.if-s-gt262144.false (sym c.read_head-read.ensures ∙ c.in-Good.is) in
+    rw h.same c.read_after_head.ensures
+
+pub returns-in-Refused : goal.returns-in-Refused
+returns-in-Refused c = told_refused_job _ _ (job_head_refused _ _ _ c.if-s-gt262144.false (sym c.read_head-read.ensures ∙ c.in-Refused.is)) c.refused_job-in-Refused.ensures

@@ -1,0 +1,21 @@
+-- `replay::moves::read_moves` meets its contract: reading the moves that are left gives what reading all
+-- gives.
+use mathlib.Core.Path.{refl, ap}
+use native.Mathlib.Omega.{arith}
+use borrow.Author.Rules.{rules}
+use Rattle.bits.specs.Bits.{bits_of}
+use Rattle.job.specs.Structs.{grid_of}
+use Rattle.rules.specs.Seen.{view_by}
+use Rattle.rules.specs.Structs.{tech_by}
+use Rattle.rules.proofs.Fitting.{fits}
+use Rattle.counts.proofs.Counting.{fit_under}
+use Rattle.replay.proofs.Walking.{Walking, move_fits, walking_begun, walking_refused, walking_on, walking_done}
+use Rattle.replay.proofs.moves.read_moves.Given as goal
+
+abbrev pub invariant-loop-left : goal.invariant-loop-left
+invariant-loop-left l =
+    Walking l.tech (view_by (grid_of l.tech.grid) l.seen) (bits_of l.plan) l.net l.count l.from l.start (record { spots = l.initial.spots; codes = l.initial.map }) l.initial.counts l.spots l.map l.counts
+    l.walk l.layer l.at l.left
+
+abbrev pub decreases-loop-left : goal.decreases-loop-left
+decreases-loop-left l = l.left

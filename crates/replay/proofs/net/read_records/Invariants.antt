@@ -1,0 +1,24 @@
+-- `replay::net::read_records` meets its contract: reading the records that are left gives what reading all
+-- gives.
+use mathlib.Core.Path.{refl, sym, ◌∙◌}
+use native.Mathlib.Omega.{arith}
+use borrow.Author.Rules.{rules}
+use borrow.Author.Tests.{not-true, not-false}
+use lib.ListN.{take}
+use Rattle.bits.specs.Bits.{bits_of}
+use Rattle.bits.proofs.Laws.{bits_of_bits}
+use Rattle.job.specs.Structs.{grid_of}
+use Rattle.rules.specs.Seen.{view_by}
+use Rattle.walker.specs.Structs.{totals_of}
+use Rattle.replay.specs.Structs.{JoinFits}
+use Rattle.counts.proofs.Counting.{fit_under}
+use Rattle.replay.proofs.Recording.{Recording, recording_begun, recording_joined, recording_cut, recording_none, recording_refused, recording_on, recording_done}
+use Rattle.replay.proofs.net.read_records.Given as goal
+
+abbrev pub invariant-loop-left : goal.invariant-loop-left
+invariant-loop-left l =
+    Recording l.tech (view_by (grid_of l.tech.grid) l.seen) (bits_of l.plan) l.hand.number (take l.hand.pins l.pins) l.hand.pins l.from (totals_of l.initial.totals)
+    l.initial.counts (record { spots = l.initial.spots; codes = l.initial.map }) l.spots l.map l.counts l.totals l.at l.left
+
+abbrev pub decreases-loop-left : goal.decreases-loop-left
+decreases-loop-left l = l.left

@@ -1,0 +1,51 @@
+-- `replay::whole::replay_plan` meets its contract.
+use borrow.Author.Rules.{rules}
+use Rattle.walker.proofs.Wholes.{plan_room, pins_held, nets_held, after_long, count-zeroed, bare_long}
+use Rattle.replay.proofs.Wholes.{plan_answer, plan_map, plan_counted, count_finished}
+use Rattle.replay.proofs.whole.replay_plan.Goals as goal
+
+pub vertices-count-requires : goal.vertices-count-requires
+vertices-count-requires c = c.requires.0.fits.sized.small
+
+pub zero_codes-requires : goal.zero_codes-requires
+zero_codes-requires c = rw c.vertices-count.ensures (plan_room _ _ _ _ _ _ c.requires.0)
+
+pub lay_all_pins-requires : goal.lay_all_pins-requires
+lay_all_pins-requires c =
+    let pre = c.requires.0 in
+    (pins_held _ _ _ _ _ _ pre, bare_long _ _ _ _ _ _ pre (count-zeroed _ c.vertices-count.ensures c.zero_codes.ensures))
+
+pub read_nets-read-requires : goal.read_nets-read-requires
+read_nets-read-requires c =
+    let laid = c.lay_all_pins.ensures in
+    let pre = c.requires in
+    (nets_held _ _ _ _ _ _ pre.0 (count-zeroed _ c.vertices-count.ensures c.zero_codes.ensures) laid.0 laid.1, pre.1)
+
+pub end_plan-replayed-requires : goal.end_plan-replayed-requires
+end_plan-replayed-requires c = c.read_nets-read.ensures.1.0
+
+pub finish_map-requires : goal.finish_map-requires
+finish_map-requires c =
+    let pre = c.requires.0 in
+    let count = c.vertices-count.ensures in
+    rw count (
+      pre.fits.sized.vertices,
+      after_long _ _ _ _ _ _ pre (count-zeroed _ count c.zero_codes.ensures) c.lay_all_pins.ensures.0
+          c.read_nets-read.ensures.1.1.0,
+    )
+
+pub returns : goal.returns
+returns c =
+    let pre = c.requires.0 in
+    let count = c.vertices-count.ensures in
+    let zeros = count-zeroed _ count c.zero_codes.ensures in
+    let kept = c.lay_all_pins.ensures.0 in
+    let read = c.read_nets-read.ensures in
+    let ended = c.end_plan-replayed.ensures in
+    let finished = count_finished _ _ _ count c.finish_map.ensures in (
+      plan_answer _ _ _ _ _ _ pre zeros kept _ _ _ read.0 read.1.1.0 ended finished,
+      (
+        plan_map _ _ _ _ _ _ pre zeros kept _ _ _ read.0 read.1.1.0 ended finished,
+        λ j is. plan_counted j _ _ _ (read.1.1.1 j is),
+      ),
+    )

@@ -1,0 +1,23 @@
+-- `router::report_call::maizespell_report` meets its contract: the plan is turned back, or its counts are
+-- tried.
+use borrow.Author.Rules.{rules}
+use Rattle.router.proofs.Reports.{zeros_fit, counts_long, report_turned, report_taken}
+use Rattle.router.proofs.Adds.{report_parts}
+use Rattle.router.proofs.report_call.maizespell_report.Goals as goal
+
+pub replay_counted-result-requires : goal.replay_counted-result-requires
+replay_counted-result-requires c = zeros_fit 48
+
+pub returns-then-result-ne0 : goal.returns-then-result-ne0
+returns-then-result-ne0 c = report_parts _ _ _ _ _ (report_turned _ _ _ _ c.replay_counted-result.ensures.0 _ c.if-result-ne0.true)
+
+pub report_counts-requires : goal.report_counts-requires
+report_counts-requires c =
+    let replayed = c.replay_counted-result.ensures in
+    counts_long _ _ _ _ replayed.0 _ c.if-result-ne0.false replayed.1
+
+pub returns : goal.returns
+returns c =
+    let replayed = c.replay_counted-result.ensures in
+    let added = c.report_counts.ensures in
+    report_parts _ _ _ _ _ (report_taken _ _ _ _ replayed.0 _ _ c.if-result-ne0.false replayed.1 added.0 added.1)

@@ -1,0 +1,17 @@
+-- `router::report_call::report_counts` meets its contract.
+use borrow.Author.Rules.{rules}
+use Rattle.router.proofs.Reports.{added_refused, added_whole}
+use Rattle.router.proofs.report_call.report_counts.Goals as goal
+
+pub add_counts-added-requires : goal.add_counts-added-requires
+add_counts-added-requires c = c.requires
+
+pub returns-in-Refused : goal.returns-in-Refused
+returns-in-Refused c =
+    let added = c.add_counts-added.ensures in
+    (added_refused _ _ added.0 c.in-Refused.is c.refused_replay.ensures, added.1)
+
+pub returns-in-Whole : goal.returns-in-Whole
+returns-in-Whole c =
+    let added = c.add_counts-added.ensures in
+    (added_whole _ _ added.0 c.in-Whole.is, added.1)

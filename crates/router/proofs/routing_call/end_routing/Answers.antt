@@ -1,0 +1,14 @@
+-- `router::routing_call::end_routing` meets its contract: the plan slice is short, or it is not.
+use borrow.Author.Rules.{rules}
+use Rattle.router.specs.Routing.{total_result}
+use Rattle.router.proofs.Routes.{end_short, end_enough}
+use Rattle.router.proofs.routing_call.end_routing.Goals as goal
+
+pub returns-then-room-bytes : goal.returns-then-room-bytes
+returns-then-room-bytes c =
+    let short = c.if-room-bytes.true in
+    (end_short _ _ short c.refused_routing.ensures, (end_short _ _ short c.zero_codes.ensures, end_short _ _ short c.zero_bytes.ensures))
+
+pub returns : goal.returns
+unfolding total_result
+returns c = let enough = c.if-room-bytes.false in (end_enough _ _ enough, (end_enough _ _ enough, end_enough _ _ enough))

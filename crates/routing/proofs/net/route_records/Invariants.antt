@@ -1,0 +1,23 @@
+-- `routing::net::route_records` meets its contract: what has been routed, then the rest, is the whole.
+use Prim.Native.Nat.{ℕ}
+use mathlib.Core.Path.{◌≡◌, refl, sym, ap, ◌∙◌}
+use mathlib.Core.List.{List}
+use native.Mathlib.Omega.{arith}
+use borrow.Author.Rules.{rules}
+use borrow.Author.Tests.{not-true, not-false}
+use lib.ListN.{length, take}
+use Rattle.job.specs.Structs.{grid_of}
+use Rattle.rules.specs.Structs.{tech_by, seen_by}
+use Rattle.bounds.specs.Fills.{Among}
+use Rattle.joins.specs.Joined.{JoinedFits}
+use Rattle.routing.proofs.Records.{Recording, recording_begun, recording_joined, recording_done}
+use Rattle.routing.proofs.OneRecord.{recording_none, recording_on}
+use Rattle.routing.proofs.net.route_records.Given as goal
+
+abbrev pub invariant-loop-left : goal.invariant-loop-left
+invariant-loop-left l =
+    Recording l.tech (seen_by l.tech l.seen) l.hand.number (take l.hand.pins l.pins) l.hand.pins l.initial.bits l.initial.totals (record { spots = l.initial.spots; codes = l.initial.map }) l.initial.plan
+    l.spots l.map l.plan l.totals l.bits l.left × (l.work ≡ l.initial.work) × Among (grid_of l.tech.grid) l.spots l.pins l.hand.pins
+
+abbrev pub decreases-loop-left : goal.decreases-loop-left
+decreases-loop-left l = l.left

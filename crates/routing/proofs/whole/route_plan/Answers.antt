@@ -1,0 +1,50 @@
+-- `routing::whole::route_plan` meets its contract.
+use borrow.Author.Rules.{rules}
+use Rattle.walker.proofs.Wholes.{plan_room, pins_held, nets_held, count-zeroed, bare_long}
+use Rattle.routing.proofs.Wholes.{routed_long, routed_answer, routed_plan, routed-map}
+use Rattle.routing.proofs.whole.route_plan.Goals as goal
+
+pub vertices-count-requires : goal.vertices-count-requires
+vertices-count-requires c = c.requires.0.fits.sized.small
+
+pub zero_codes-requires : goal.zero_codes-requires
+zero_codes-requires c = rw c.vertices-count.ensures (plan_room _ _ _ _ _ _ c.requires.0)
+
+pub lay_all_pins-requires : goal.lay_all_pins-requires
+lay_all_pins-requires c =
+    let held = c.requires.0 in
+    (pins_held _ _ _ _ _ _ held, bare_long _ _ _ _ _ _ held (count-zeroed _ c.vertices-count.ensures c.zero_codes.ensures))
+
+pub route_nets-routed-requires : goal.route_nets-routed-requires
+route_nets-routed-requires c =
+    let laid = c.lay_all_pins.ensures in
+    let pre = c.requires in (
+      nets_held _ _ _ _ _ _ pre.0 (count-zeroed _ c.vertices-count.ensures c.zero_codes.ensures) laid.0 laid.1,
+      pre.1,
+    )
+
+pub put_obstacles-requires : goal.put_obstacles-requires
+put_obstacles-requires c =
+    let pre = c.requires in
+    let count = c.vertices-count.ensures in
+    rw count (
+      pre.0.fits.sized.vertices,
+      routed_long _ _ _ _ _ _ pre.0 (count-zeroed _ count c.zero_codes.ensures) c.lay_all_pins.ensures.0 _ _ c.route_nets-routed.ensures.0,
+    )
+
+pub returns : goal.returns
+returns c =
+    let held = c.requires.0 in
+    let count = c.vertices-count.ensures in
+    let zeros = count-zeroed _ count c.zero_codes.ensures in
+    let kept = c.lay_all_pins.ensures.0 in
+    let (routed, (fits, work)) = c.route_nets-routed.ensures in (
+      routed_answer _ _ _ _ _ _ held zeros kept _ _ routed,
+      (
+        fits.reach,
+        (
+          routed-map _ _ _ _ _ _ held zeros kept _ _ routed count c.put_obstacles.ensures,
+          (routed_plan _ _ _ _ _ _ held zeros kept _ _ routed, work),
+        ),
+      ),
+    )

@@ -1,0 +1,9 @@
+-- `rules::seen::has` meets its contract.
+use mathlib.Core.Path.{refl}
+use borrow.Author.Rules.{rules}
+use Rattle.rules.specs.Seen.{holds}
+use Rattle.rules.proofs.seen.has.Goals as goal
+
+pub returns : goal.returns
+unfolding holds
+returns c = refl

@@ -1,0 +1,122 @@
+-- `search::lead::leads` meets its contract: each way out by its law.
+use mathlib.Core.Path.{refl}
+use borrow.Author.Rules.{rules}
+use native.Mathlib.Omega.{arith}
+use Rattle.rules.proofs.Places.{code_below, places_small}
+use Rattle.search.proofs.Asking.{vertex_here, code_asked, code_made, code_here, next_left, next_small, settled_here, settled_short, settled_fields, Led, led, led_not}
+use Rattle.search.proofs.Leading.{lead_stopped, lead_goal, lead_bare, lead_led}
+use Rattle.search.proofs.lead.leads.Goals as goal
+
+pub step_from-requires : goal.step_from-requires
+step_from-requires c =
+    let pre = c.requires in
+    ((_, settled_here pre.0 pre.1, refl), settled_short pre.0)
+
+-- where the move is made, from the legal move
+abbrev start : tie.After-made → tie.Start
+start c = c.before.before.before.before.before.before.before
+
+-- and what it leads to
+legal : (c : tie.After-made) → Led (start c).requires.0 (start c).args.seen.now (start c).args.number c.made.given.0.0
+legal c =
+    let pre = (start c).requires in
+    led pre.0 _ _ (c.before.before.step_from.ensures _ (settled_here pre.0 pre.1) refl) c.made.given.1
+
+pub returns-in_default : goal.returns-in_default
+returns-in_default c =
+    let pre = c.requires in
+    let args = c.args in
+    lead_stopped _ _ args.spots.now args.bounds.now args.work.now args.best args.settled.distance
+    (led_not pre.0 _ _ (c.step_from.ensures _ (settled_here pre.0 pre.1) refl) c.in_default.is)
+
+pub overflow_add-cost : goal.overflow_add-cost
+overflow_add-cost c = omega (arith, (legal c).price)
+
+pub overflow_add-cost-2 : goal.overflow_add-cost-2
+overflow_add-cost-2 c =
+    let pre = (start c).requires in
+    omega (arith, pre.0.below, (legal c).price)
+
+pub bounds-spots-vertex : goal.bounds-spots-vertex
+bounds-spots-vertex c =
+    let pre = (start c).requires in
+    vertex_here pre.0.fits _ (legal c).well-formed
+
+pub returns-then-spots-vertex-eq-UNJOINED : goal.returns-then-spots-vertex-eq-UNJOINED
+returns-then-spots-vertex-eq-UNJOINED c =
+    let pre = (start c).requires in
+    let args = (start c).args in
+    let l = legal c in
+    lead_goal _ _ args.spots.now args.bounds.now args.work.now args.best args.settled.distance l.leads c.if-spots-vertex-eq-UNJOINED.true
+
+pub code_of-code-requires : goal.code_of-code-requires
+code_of-code-requires c =
+    let pre = (start c).requires in
+    code_asked pre.0.fits _ (legal c).well-formed
+
+pub offset_bounds-work-code : goal.offset_bounds-work-code
+offset_bounds-work-code c =
+    let pre = (start c).requires in
+    let good = (legal c).well-formed in
+    omega (arith, code_made pre.0.fits _ good c.code_of-code.ensures, code_below good, places_small pre.0.fits.good)
+
+pub bounds-work-code : goal.bounds-work-code
+bounds-work-code c =
+    let pre = (start c).requires in
+    let good = (legal c).well-formed in
+    code_here pre.0.fits _ good c.code_of-code.ensures pre.2
+
+pub returns-then-word-ne-LED : goal.returns-then-word-ne-LED
+returns-then-word-ne-LED c =
+    let pre = (start c).requires in
+    let args = (start c).args in
+    let l = legal c in
+    lead_bare _ _ args.spots.now args.bounds.now args.work.now args.best args.settled.distance l.leads c.if-spots-vertex-eq-UNJOINED.false
+    (code_made pre.0.fits _ l.good c.code_of-code.ensures) c.if-word-ne-LED.true
+
+pub bound_entered-left-requires : goal.bound_entered-left-requires
+bound_entered-left-requires c =
+    let pre = c.requires in
+    (pre.3, pre.0.fits.sized.small, settled_fields pre.0)
+
+pub overflow_mul-result : goal.overflow_mul-result
+overflow_mul-result c =
+    let pre = (start c).requires in
+    omega (arith, pre.0.below, (legal c).price)
+
+pub overflow_add-result : goal.overflow_add-result
+overflow_add-result c =
+    let pre = (start c).requires in
+    let l = legal c in
+    let small = next_small pre.0.fits _ pre.0.good _ _ l.leads _ pre.0.is c.bound_entered-left.ensures pre.3 in
+    omega (arith, pre.0.below, l.price, small)
+
+pub overflow_add-result-2 : goal.overflow_add-result-2
+overflow_add-result-2 c =
+    let pre = (start c).requires in
+    let l = legal c in
+    let small = next_small pre.0.fits _ pre.0.good _ _ l.leads _ pre.0.is c.bound_entered-left.ensures pre.3 in
+    omega (arith, pre.0.below, l.price, small)
+
+pub overflow_mul-result-2 : goal.overflow_mul-result-2
+overflow_mul-result-2 c =
+    let pre = (start c).requires in
+    let l = legal c in
+    let small = next_small pre.0.fits _ pre.0.good _ _ l.leads _ pre.0.is c.bound_entered-left.ensures pre.3 in
+    omega (arith, pre.0.below, l.price, small)
+
+pub overflow_add-result-3 : goal.overflow_add-result-3
+overflow_add-result-3 c =
+    let pre = (start c).requires in
+    let l = legal c in
+    let small = next_small pre.0.fits _ pre.0.good _ _ l.leads _ pre.0.is c.bound_entered-left.ensures pre.3 in
+    omega (arith, pre.0.below, l.price, small)
+
+pub returns : goal.returns
+returns c =
+    let args = (start c).args in
+    let pre = (start c).requires in
+    let l = legal c in
+    lead_led _ _ args.spots.now args.bounds.now args.work.now args.best args.settled.distance l.leads c.if-spots-vertex-eq-UNJOINED.false
+    (code_made pre.0.fits _ l.good c.code_of-code.ensures)
+    (next_left pre.0.fits _ pre.0.good _ _ l.leads _ pre.0.is c.bound_entered-left.ensures)

@@ -1,0 +1,43 @@
+-- `search::lead::lowest_among` meets its contract.
+use Prim.Native.Nat.{◌-◌}
+use borrow.Author.Rules.{rules}
+use borrow.Author.Tests.{eqb-false}
+use mathlib.Core.Logic.{inl, inr}
+use mathlib.Core.Path.{sym, ◌∙◌}
+use native.Mathlib.Omega.{arith}
+use Rattle.rules.specs.Structs.{tech_by, seen_by, place_of}
+use Rattle.search.proofs.Leading.{Untried, untried_begun, untried_on, untried_skip, untried_here, untried_none}
+use Rattle.search.proofs.lead.lowest_among.Goals as goal
+
+pub loop-number-init : goal.loop-number-init
+loop-number-init c = untried_begun _ _ _ _ _ _ _ _
+
+pub leads-requires : goal.leads-requires
+leads-requires c = let pre = c.requires in (pre.0, pre.1, pre.2, pre.3)
+
+pub returns-then-leads : goal.returns-then-leads
+returns-then-leads c =
+    let args = c.args in
+    untried_here _ _ args.spots.now args.bounds.now args.work.now args.best _ c.loop-number.invariant c.loop-number-test.true c.leads.ensures c.if-leads.true
+
+pub overflow_step-number : goal.overflow_step-number
+overflow_step-number c = omega (arith, c.loop-number-test.true)
+
+pub loop-number-smaller : goal.loop-number-smaller
+loop-number-smaller c = omega (arith, c.loop-number-test.true)
+
+pub loop-number-preserved : goal.loop-number-preserved
+loop-number-preserved c =
+    let inv = c.loop-number.invariant in
+    let more = c.loop-number-test.true in
+    let args = c.args in
+    elim c.if-has_move.branch [
+      | inl did ↦ untried_on _ _ _ _ _ _ _ inv more did.1.ensures did.2.left
+      | inr not ↦ untried_skip _ _ args.spots.now args.bounds.now args.work.now args.best _ inv args.moves c.requires.4 more
+          (eqb-false _ 1 (sym c.has_move.ensures ∙ not.left))
+    ]
+
+pub returns : goal.returns
+returns c =
+    let args = c.args in
+    untried_none _ _ args.spots.now args.bounds.now args.work.now args.best _ c.loop-number.invariant c.loop-number-test.false

@@ -1,0 +1,17 @@
+-- `search::lead::lowest_among` meets its contract: so far no move leads on.
+use Prim.Native.Nat.{◌-◌}
+use borrow.Author.Rules.{rules}
+use borrow.Author.Tests.{eqb-false}
+use mathlib.Core.Logic.{inl, inr}
+use mathlib.Core.Path.{sym, ◌∙◌}
+use native.Mathlib.Omega.{arith}
+use Rattle.rules.specs.Structs.{tech_by, seen_by, place_of}
+use Rattle.search.proofs.Leading.{Untried, untried_begun, untried_on, untried_skip, untried_here, untried_none}
+use Rattle.search.proofs.lead.lowest_among.Given as goal
+
+abbrev pub invariant-loop-number : goal.invariant-loop-number
+invariant-loop-number l =
+    Untried (tech_by l.tech) (seen_by l.tech l.seen) l.spots l.bounds l.work l.best (place_of l.settled.place) l.settled.distance l.number
+
+abbrev pub decreases-loop-number : goal.decreases-loop-number
+decreases-loop-number l = 4 - l.number

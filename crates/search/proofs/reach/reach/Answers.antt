@@ -1,0 +1,26 @@
+-- `search::reach::reach` meets its contract.
+use native.Mathlib.Omega.{arith}
+use borrow.Author.Rules.{rules}
+use Rattle.search.proofs.Reaching.{attempt_to, reach_not}
+use Rattle.search.proofs.reach.reach.Goals as goal
+
+pub try_move-attempt-requires : goal.try_move-attempt-requires
+try_move-attempt-requires c =
+    let pre = c.requires in
+    (pre.0, pre.3, pre.2, omega (arith, pre.1.seated.room), pre.4)
+
+pub returns-in_default : goal.returns-in_default
+returns-in_default c =
+    let pre = c.requires in
+    let attempt = c.try_move-attempt.ensures in
+    (reach_not _ _ pre.0.fits.good pre.0.good pre.1 pre.5 attempt c.in_default.is, attempt.owed)
+
+pub arrive-reached-requires : goal.arrive-reached-requires
+arrive-reached-requires c =
+    let pre = c.requires in
+    (pre.0, pre.1, pre.2, (_, attempt_to _ _ _ c.try_move-attempt.ensures c.in-To.is))
+
+pub returns : goal.returns
+returns c =
+    let attempt = c.try_move-attempt.ensures in
+    (c.arrive-reached.ensures _ (attempt_to _ _ _ attempt c.in-To.is), attempt.owed)

@@ -1,0 +1,24 @@
+-- `search::retrace::light` meets its contract.
+use Prim.Native.Nat.{◌-◌}
+use native.Mathlib.Omega.{arith}
+use Rattle.job.specs.Structs.{grid_of}
+use Rattle.search.proofs.Lighting.{Lighting, lighting_begun, lighting_on, lighting_done}
+use Rattle.search.proofs.retrace.light.Goals as goal
+
+pub loop-number-init : goal.loop-number-init
+loop-number-init c = lighting_begun _ _ _ c.requires.3
+
+pub light_one-requires : goal.light_one-requires
+light_one-requires c = let pre = c.requires in (pre.0, pre.1, pre.2, c.loop-number.invariant.bytes, c.loop-number-test.true)
+
+pub overflow_step-number : goal.overflow_step-number
+overflow_step-number c = omega (arith, c.loop-number-test.true)
+
+pub loop-number-smaller : goal.loop-number-smaller
+loop-number-smaller c = omega (arith, c.loop-number-test.true)
+
+pub loop-number-preserved : goal.loop-number-preserved
+loop-number-preserved c = let lit = c.light_one.ensures in lighting_on _ _ _ c.loop-number.invariant c.loop-number-test.true lit.0 lit.1.0 lit.1.1
+
+pub returns : goal.returns
+returns c = let inv = c.loop-number.invariant in (lighting_done _ _ _ inv c.loop-number-test.false, (inv.stays, inv.bytes))

@@ -1,0 +1,12 @@
+-- `search::retrace::light` meets its contract: so many moves are turned back.
+use Prim.Native.Nat.{◌-◌}
+use native.Mathlib.Omega.{arith}
+use Rattle.job.specs.Structs.{grid_of}
+use Rattle.search.proofs.Lighting.{Lighting, lighting_begun, lighting_on, lighting_done}
+use Rattle.search.proofs.retrace.light.Given as goal
+
+abbrev pub invariant-loop-number : goal.invariant-loop-number
+invariant-loop-number l = Lighting (grid_of l.grid) l.v l.initial.near l.near l.number
+
+abbrev pub decreases-loop-number : goal.decreases-loop-number
+decreases-loop-number l = 4 - l.number

@@ -1,0 +1,16 @@
+-- `search::seed::seed` meets its contract: block by block.
+use Prim.Native.Nat.{◌-◌, ◌%◌, ◌<◌}
+use mathlib.Core.Path.{◌≡◌}
+use borrow.Author.Rules.{rules}
+use native.Mathlib.Omega.{arith}
+use Rattle.rules.specs.Structs.{tech_by}
+use Rattle.search.specs.Spreads.{Seeding}
+use Rattle.search.proofs.Seeding.{seeding_begun, seeding_done, block_asked}
+use Rattle.search.proofs.seed.seed.Given as goal
+
+abbrev pub invariant-loop-from : goal.invariant-loop-from
+invariant-loop-from l =
+    Seeding (tech_by l.tech) l.spots l.bounds l.initial.work l.work l.size l.from × (l.from < l.count → l.from % 128 ≡ 0)
+
+abbrev pub decreases-loop-from : goal.decreases-loop-from
+decreases-loop-from l = l.count - l.from

@@ -1,0 +1,26 @@
+-- `search::seed::some_in` meets its contract.
+use Prim.Native.Nat.{◌-◌}
+use native.Mathlib.Omega.{arith}
+use Rattle.search.proofs.Seeding.{Flagged, flagged_begun, flagged_on, flagged_none}
+use Rattle.search.proofs.seed.some_in.Goals as goal
+
+pub loop-i-init : goal.loop-i-init
+loop-i-init c = flagged_begun _ _
+
+pub overflow_add-from : goal.overflow_add-from
+overflow_add-from c = omega (arith, c.requires, c.loop-i-test.true)
+
+pub bounds-spots-from : goal.bounds-spots-from
+bounds-spots-from c = omega (arith, c.requires, c.loop-i-test.true)
+
+pub overflow_step-i : goal.overflow_step-i
+overflow_step-i c = omega (arith, c.loop-i-test.true)
+
+pub loop-i-smaller : goal.loop-i-smaller
+loop-i-smaller c = omega (arith, c.loop-i-test.true)
+
+pub loop-i-preserved : goal.loop-i-preserved
+loop-i-preserved c = flagged_on c.loop-i.invariant c.loop-i-test.true c.if-spots-from-ne0.branch (λ stays. stays.left)
+
+pub returns : goal.returns
+returns c = flagged_none c.loop-i.invariant c.loop-i-test.false

@@ -1,0 +1,83 @@
+-- `search::settle::settle` meets its contract.
+use Prim.Native.Nat.{◌+◌, ◌-◌}
+use borrow.Author.Rules.{rules}
+use native.Mathlib.Omega.{arith}
+use Rattle.metal.specs.Codes.{Beyond}
+use Rattle.metal.proofs.Slices.{beyond_refl, beyond_trans}
+use Rattle.rules.specs.Joins.{places}
+use Rattle.rules.specs.Structs.{tech_by, seen_by}
+use Rattle.search.specs.Spreads.{Between}
+use Rattle.search.proofs.Settling.{between-begun, between_on, ended_none, ended_best, least_asked, least_some, removed_room, removed_turn, removed_kept}
+use Rattle.search.proofs.settle.settle.Goals as goal
+
+pub places-n-requires : goal.places-n-requires
+places-n-requires c = c.requires.0
+
+pub seed-requires : goal.seed-requires
+seed-requires c = let pre = c.requires in (pre.0, pre.1, pre.4)
+
+pub loop-front-init : goal.loop-front-init
+unfolding tech_by
+loop-front-init c =
+    let pre = c.requires in
+    let seeded = c.seed.ensures in
+    (between-begun _ _ _ pre.0.good seeded.0 seeded.1.0 pre.2, beyond_refl _ _)
+
+pub key_at-top-requires : goal.key_at-top-requires
+key_at-top-requires c = least_asked c.places-n.ensures c.loop-front.invariant.0 c.loop-front-test.true
+
+pub overflow_sub-top : goal.overflow_sub-top
+overflow_sub-top c = least_some c.places-n.ensures c.loop-front.invariant.0 c.loop-front-test.true c.key_at-top.ensures
+
+pub overflow_mul-front : goal.overflow_mul-front
+overflow_mul-front c = omega (arith, c.loop-front.invariant.0.spread.bound)
+
+pub returns-then-front-top : goal.returns-then-front-top
+returns-then-front-top c =
+    let counted = c.places-n.ensures in
+    let key = c.key_at-top.ensures in
+    let inv = c.loop-front.invariant in
+    let one = least_some counted inv.0 c.loop-front-test.true key in
+    (ended_best _ _ _ c.requires.0.good inv.0 counted one key c.if-front-top.true, beyond_trans inv.1 c.seed.ensures.1.1)
+
+pub settle_next-item-requires : goal.settle_next-item-requires
+settle_next-item-requires c =
+    let counted = c.places-n.ensures in
+    let some = c.loop-front-test.true in
+    let inv = c.loop-front.invariant in
+    (rw counted inv.0.laid.heaped, some, removed_room counted inv.0 some)
+
+pub overflow_add-settled : goal.overflow_add-settled
+overflow_add-settled c =
+    let counted = c.places-n.ensures in
+    let inv = c.loop-front.invariant in
+    omega (arith, removed_room counted inv.0 c.loop-front-test.true, inv.0.laid.heaped.seated.few, counted)
+
+pub overflow_sub-rest : goal.overflow_sub-rest
+overflow_sub-rest c = c.loop-front-test.true
+
+pub reach_all-front-requires : goal.reach_all-front-requires
+reach_all-front-requires c =
+    let pre = c.requires in
+    let (distance, top, turn) = removed_turn c.places-n.ensures c.loop-front.invariant.0 c.loop-front-test.true c.settle_next-item.ensures pre.0.good c.key_at-top.ensures in
+    (pre.0, (_, distance, top, turn), pre.3, pre.4, pre.5)
+
+pub loop-front-smaller : goal.loop-front-smaller
+loop-front-smaller c = omega (arith, removed_room c.places-n.ensures c.loop-front.invariant.0 c.loop-front-test.true)
+
+pub loop-front-preserved : goal.loop-front-preserved
+loop-front-preserved c =
+    let counted = c.places-n.ensures in
+    let some = c.loop-front-test.true in
+    let removed = c.settle_next-item.ensures in
+    let reached = c.reach_all-front.ensures in
+    let fine = c.requires.0.good in
+    let inv = c.loop-front.invariant in
+    let (distance, top, turn) = removed_turn counted inv.0 some removed fine c.key_at-top.ensures in
+    let kept = removed_kept counted inv.0 some removed in
+    (between_on _ _ _ fine (reached.0 _ distance top turn), beyond_trans reached.1 (beyond_trans (rw counted at kept) inv.1))
+
+pub returns : goal.returns
+returns c =
+    let inv = c.loop-front.invariant in
+    (ended_none _ _ _ c.requires.0.good inv.0 c.loop-front-test.false, beyond_trans inv.1 c.seed.ensures.1.1)

@@ -1,0 +1,33 @@
+-- `tree::put_pins` meets its contract.
+use Prim.Native.Nat.{◌-◌}
+use mathlib.Core.Path.{◌≡◌, refl, sym, ◌∙◌}
+use native.Mathlib.Omega.{arith}
+use lib.ListN.{take, drop}
+use Rattle.rules.proofs.Fitting.{one_more}
+use Rattle.tree.specs.Spots.{put_all}
+use Rattle.tree.proofs.Turns.{pin_vertex, put_turn, put_done}
+use Rattle.tree.proofs.put_pins.Goals as goal
+
+pub loop-i-init : goal.loop-i-init
+loop-i-init c = refl
+
+pub offset_bounds-pins-i : goal.offset_bounds-pins-i
+offset_bounds-pins-i c = omega (arith, c.loop-i-test.true, c.requires.few)
+
+pub bounds-pins-i : goal.bounds-pins-i
+bounds-pins-i c = omega (arith, c.loop-i-test.true, c.requires.few)
+
+pub bounds-spots-pins : goal.bounds-spots-pins
+bounds-spots-pins c = pin_vertex c.requires c.loop-i-test.true
+
+pub overflow_step-i : goal.overflow_step-i
+overflow_step-i c = omega (arith, c.loop-i-test.true, c.requires.few)
+
+pub loop-i-smaller : goal.loop-i-smaller
+loop-i-smaller c = omega (arith, c.loop-i-test.true)
+
+pub loop-i-preserved : goal.loop-i-preserved
+loop-i-preserved c = rw one_more (c.loop-i.invariant ∙ put_turn c.requires c.loop-i-test.true 2 _)
+
+pub returns : goal.returns
+returns c = sym (c.loop-i.invariant ∙ put_done c.requires 2 _ c.loop-i-test.false)

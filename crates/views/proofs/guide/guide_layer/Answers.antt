@@ -1,0 +1,47 @@
+-- `views::guide::guide_layer` meets its contract.
+use Prim.Native.Nat.{◌-◌}
+use mathlib.Core.Path.{sym, ◌∙◌}
+use mathlib.Core.Logic.{⊎_elim}
+use native.Mathlib.Omega.{arith}
+use Rattle.job.specs.Structs.{grid_of, box_of}
+use Rattle.rules.proofs.Vertices.{vertex_below}
+use Rattle.views.specs.Sight.{in_row, in_layer}
+use Rattle.views.proofs.Axes.{FoundTo, found_begin, found_turn, found_none, found_end}
+use Rattle.views.proofs.Rows.{row_outside}
+use Rattle.views.proofs.guide.guide_layer.Goals as goal
+
+pub loop-row-init : goal.loop-row-init
+loop-row-init c = found_begin _ _ _ _
+
+pub overflow_cast-row : goal.overflow_cast-row
+overflow_cast-row c = omega (arith, c.requires.0.small.rows)
+
+pub on_rows-requires : goal.on_rows-requires
+on_rows-requires c = tt
+
+pub guide_row-requires : goal.guide_row-requires
+guide_row-requires c =
+    let pre = c.requires in
+    (pre.0, omega arith, pre.2, omega arith)
+
+pub overflow_step-row : goal.overflow_step-row
+overflow_step-row c = omega arith
+
+pub loop-row-smaller : goal.loop-row-smaller
+loop-row-smaller c = omega arith
+
+pub loop-row-preserved : goal.loop-row-preserved
+unfolding in_row
+loop-row-preserved c =
+    let so_far = c.loop-row.invariant in
+    let asked = c.on_rows.ensures in
+    ⊎_elim
+    (λ w. rw w.5 (found_turn _ _ _ so_far w.3.given w.2.ensures))
+    (λ w. rw w.1 (found_none _ _ _ so_far (row_outside _ _ _ (sym asked ∙ w.0.left))))
+    c.if-on_rows.branch
+
+pub shape_of-seen : goal.shape_of-seen
+shape_of-seen c = c.loop-row.invariant.size
+
+pub returns : goal.returns
+returns c = found_end _ _ _ c.loop-row.invariant (λ v on. omega (arith, c.loop-row-test.false, (vertex_below _ on).row))

@@ -1,0 +1,61 @@
+-- `views::guide::guide_row` meets its contract.
+use Prim.Native.Nat.{◌-◌}
+use native.Mathlib.Omega.{arith}
+use Rattle.job.specs.Structs.{grid_of, box_of}
+use Rattle.job.proofs.Grids.{Below}
+use Rattle.rules.proofs.Vertices.{vertex_below}
+use Rattle.views.specs.Sight.{in_row}
+use Rattle.views.proofs.Axes.{FoundTo, found_begin, found_end}
+use Rattle.views.proofs.Rows.{row_number, row_turn}
+use Rattle.views.proofs.guide.guide_row.Goals as goal
+
+pub loop-column-init : goal.loop-column-init
+loop-column-init c = found_begin _ _ _ _
+
+pub number-v-requires : goal.number-v-requires
+number-v-requires c =
+    let pre = c.requires in
+    let small = pre.0.small in
+    (small, record { layer = omega (arith, small.layers, pre.2); row = omega (arith, small.rows, pre.3); column = omega (arith, small.columns) })
+
+pub overflow_cast-layer : goal.overflow_cast-layer
+overflow_cast-layer c = let pre = c.requires in omega (arith, pre.0.small.layers, pre.2)
+
+pub overflow_cast-row : goal.overflow_cast-row
+overflow_cast-row c = let pre = c.requires in omega (arith, pre.0.small.rows, pre.3)
+
+pub overflow_cast-column : goal.overflow_cast-column
+overflow_cast-column c = omega (arith, c.requires.0.small.columns)
+
+pub in_box-inside-requires : goal.in_box-inside-requires
+in_box-inside-requires c = tt
+
+-- the turn's vertex is one of the grid's
+below : (c : tie.After-number invariant-loop decreases-loop) → (let args = c.before.before.before.before.args in
+    Below (grid_of args.grid) (record { layer = args.layer; row = args.row; column = c.before.before.loop.column }))
+below c = let pre = c.before.before.before.before.requires in record { layer = pre.2; row = pre.3; column = c.before.loop-test.true }
+
+pub bounds-seen-v : goal.bounds-seen-v
+bounds-seen-v c = omega (arith, row_number _ _ _ _ (below c) c.number-v.ensures)
+
+pub guided_byte-requires : goal.guided_byte-requires
+guided_byte-requires c = tt
+
+pub bounds-seen-v-in-loop-column : goal.bounds-seen-v-in-loop-column
+bounds-seen-v-in-loop-column c = omega (arith, row_number _ _ _ _ (below c) c.number-v.ensures)
+
+pub overflow_step-column : goal.overflow_step-column
+overflow_step-column c = omega arith
+
+pub loop-column-smaller : goal.loop-column-smaller
+loop-column-smaller c = omega arith
+
+pub loop-column-preserved : goal.loop-column-preserved
+loop-column-preserved c =
+    row_turn _ _ _ _ c.loop-column.invariant (below c) (omega arith) c.number-v.ensures c.in_box-inside.ensures c.guided_byte.ensures
+
+pub shape_of-seen : goal.shape_of-seen
+shape_of-seen c = c.loop-column.invariant.size
+
+pub returns : goal.returns
+returns c = found_end _ _ _ c.loop-column.invariant (λ v on. omega (arith, c.loop-column-test.false, (vertex_below _ on).column))

@@ -1,0 +1,16 @@
+-- `views::guide::guide_row` meets its contract: the vertices at the columns below are found.
+use Prim.Native.Nat.{◌-◌}
+use native.Mathlib.Omega.{arith}
+use Rattle.job.specs.Structs.{grid_of, box_of}
+use Rattle.job.proofs.Grids.{Below}
+use Rattle.rules.proofs.Vertices.{vertex_below}
+use Rattle.views.specs.Sight.{in_row}
+use Rattle.views.proofs.Axes.{FoundTo, found_begin, found_end}
+use Rattle.views.proofs.Rows.{row_number, row_turn}
+use Rattle.views.proofs.guide.guide_row.Given as goal
+
+abbrev pub invariant-loop-column : goal.invariant-loop-column
+invariant-loop-column l = FoundTo (grid_of l.grid) (λ w. w.column) (in_row l.layer l.row (box_of l.guide)) l.initial.seen l.seen l.column
+
+abbrev pub decreases-loop-column : goal.decreases-loop-column
+decreases-loop-column l = l.column-end - l.column
