@@ -100,6 +100,6 @@ module _ {S : System} {Good : S.Place → Type 0} {code : S.Place → ℕ} {size
   follow_first zero good g e (Route.walks {s = s} legal no_goal_lem r) = rw (follow_none S D s) (inr ends)
   follow_first (suc k) good g e (Route.enters {p = p} legal goal) =
       step_first k good g e legal (add-zero p) (done goal) (inl (sym (follow_goal S D k goal)))
-  follow_first (suc k) good g e (Route.walks legal no_goal_lem r) =
+  follow_first {s = s} (suc k) good g e (Route.walks {t = t} {m = m} {p = p} {c = c} {ms = ms} legal no_goal_lem r) =
       let entry = tight good g e legal refl (more no_goal_lem r) in
-      step_first k good g e legal refl (more no_goal_lem r) (follow_first k (laws.keeps good legal) no_goal_lem entry r)
+      step_first k good g e legal refl (more no_goal_lem r) (follow_first {s = t} k (laws.keeps good legal) no_goal_lem entry r)

@@ -57,7 +57,7 @@ pub dist_bounds : {S : System} {s : S.Place} {ms : List ℕ} {c : ℕ} (k : ℕ)
 dist_bounds zero (Rival.enters legal g) h = absurd (omega arith)
 dist_bounds zero (Rival.walks legal r) h = absurd (omega arith)
 dist_bounds {S} (suc k) (Rival.enters legal g) h = rw add-zero at (dist_move S k 0 legal (rw (dist_goal S k g) (omega arith)))
-dist_bounds {S} (suc k) (Rival.walks {c = c} legal r) h = dist_move S k c legal (dist_bounds k r (omega arith))
+dist_bounds {S} {s = s} (suc k) (Rival.walks {t = t} {m = m} {p = p} {c = c} {ms = ms} legal r) h = dist_move S k c legal (dist_bounds {s = t} k r (omega arith))
 
 -- ---- it is reached
 

@@ -10,10 +10,6 @@ use Rattle.lines.proofs.Putting.{put_then, written}
 use Rattle.lines.proofs.Turn.{hex_none, hex_some, length_some}
 use Rattle.lines.proofs.put_hex_line.Goals as goal
 
--- TODO slice-aggregate-put-text
-slice-aggregate-put-text : tie.Need-slice-aggregate-put-text
-slice-aggregate-put-text c = search rules
-
 pub returns-then-count-eq0 : goal.returns-then-count-eq0
 returns-then-count-eq0 c =
     let a = c.args in

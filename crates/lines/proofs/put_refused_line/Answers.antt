@@ -8,18 +8,10 @@ use Rattle.lines.proofs.Decimals.{length_word, length_refused}
 use Rattle.lines.proofs.Putting.{put_then, written}
 use Rattle.lines.proofs.put_refused_line.Goals as goal
 
--- TODO slice-aggregate-put-text
-slice-aggregate-put-text : tie.Need-slice-aggregate-put-text
-slice-aggregate-put-text c = search rules
-
 pub put_decimal-at-requires : goal.put_decimal-at-requires
 put_decimal-at-requires c =
     let a = c.args in
     omega (arith, length_word a.number (omega arith), c.put_text-at.ensures.next_is)
-
--- TODO slice-aggregate-put-text-2
-slice-aggregate-put-text-2 : tie.Need-slice-aggregate-put-text-2
-slice-aggregate-put-text-2 c = search rules
 
 pub put_text-at-requires-2 : goal.put_text-at-requires-2
 put_text-at-requires-2 c =
@@ -30,10 +22,6 @@ pub put_decimal-at-requires-2 : goal.put_decimal-at-requires-2
 put_decimal-at-requires-2 c =
     let a = c.args in
     omega (arith, length_word a.number (omega arith), length_word a.place (omega arith), c.put_text-at.ensures.next_is, c.put_decimal-at.ensures.next_is, c.put_text-at-2.ensures.next_is)
-
--- TODO slice-aggregate-put-text-3
-slice-aggregate-put-text-3 : tie.Need-slice-aggregate-put-text-3
-slice-aggregate-put-text-3 c = search rules
 
 pub put_text-requires : goal.put_text-requires
 put_text-requires c =

@@ -4,10 +4,6 @@ use Rattle.lines.specs.Lines.{too_large_line}
 use Rattle.lines.proofs.Putting.{written}
 use Rattle.lines.proofs.put_too_large.Goals as goal
 
--- TODO slice-aggregate-put-text
-slice-aggregate-put-text : tie.Need-slice-aggregate-put-text
-slice-aggregate-put-text c = search rules
-
 pub returns : goal.returns
 unfolding too_large_line
 returns c =

@@ -13,39 +13,47 @@ pub returns-then-not-whole : goal.returns-then-not-whole
 unfolding head_group
 returns-then-not-whole c = rw (is_cut 80 _ _ c.whole.ensures c.if-not-whole.true-raw)
 
--- all bits of the head, where it is whole
-all : (c : tie.Else1) → Left c.before.before.before.args.s.now 0 80
-all c = all_left 80 (is_whole 80 _ _ c.before.whole.ensures c.if1.false) (omega arith)
-
 pub field-edition-requires : goal.field-edition-requires
-field-edition-requires c = room tt (all c)
+field-edition-requires c =
+    let all : Left c.args.s.now 0 80 = all_left 80 (is_whole 80 _ _ c.whole.ensures c.if-not-whole.false-raw) (omega arith) in
+    room tt all
 
 pub field-direction-requires : goal.field-direction-requires
-field-direction-requires c = room tt (past 4 tt c.field-edition.ensures (all c))
-
--- what is left past the edition and the direction
-past_direction : (c : tie.After-field2) → Left c.before.before.before.before.before.args.s.now c.field2.result.next.at 75
-past_direction c = past 1 tt c.field2.ensures (past 4 tt c.before.field.ensures (all c.before.before))
+field-direction-requires c =
+    let all : Left c.args.s.now 0 80 = all_left 80 (is_whole 80 _ _ c.whole.ensures c.if-not-whole.false-raw) (omega arith) in
+    room tt (past 4 tt c.field-edition.ensures all)
 
 pub field-layers-requires : goal.field-layers-requires
-field-layers-requires c = room tt (past_direction c)
+field-layers-requires c =
+    let all : Left c.args.s.now 0 80 = all_left 80 (is_whole 80 _ _ c.whole.ensures c.if-not-whole.false-raw) (omega arith) in
+    let past_direction : Left c.args.s.now c.field-direction.result.next.at 75 = past 1 tt c.field-direction.ensures (past 4 tt c.field-edition.ensures all) in
+    room tt past_direction
 
 pub field-columns-requires : goal.field-columns-requires
-field-columns-requires c = room tt (past 3 tt c.field-layers.ensures (past_direction c))
+field-columns-requires c =
+    let all : Left c.args.s.now 0 80 = all_left 80 (is_whole 80 _ _ c.whole.ensures c.if-not-whole.false-raw) (omega arith) in
+    let past_direction : Left c.args.s.now c.field-direction.result.next.at 75 = past 1 tt c.field-direction.ensures (past 4 tt c.field-edition.ensures all) in
+    room tt (past 3 tt c.field-layers.ensures past_direction)
 
 pub field-rows-requires : goal.field-rows-requires
-field-rows-requires c = room tt (past 8 tt c.field-columns.ensures (past 3 tt c.field-layers.ensures (past_direction c)))
-
--- what is left past the grid
-past_grid : (c : tie.After-field5) → Left c.before.before.before.before.before.before.before.before.args.s.now c.field5.result.next.at 56
-past_grid c =
-    past 8 tt c.field5.ensures (past 8 tt c.before.field4.ensures (past 3 tt c.before.before.field3.ensures (past_direction c.before.before.before)))
+field-rows-requires c =
+    let all : Left c.args.s.now 0 80 = all_left 80 (is_whole 80 _ _ c.whole.ensures c.if-not-whole.false-raw) (omega arith) in
+    let past_direction : Left c.args.s.now c.field-direction.result.next.at 75 = past 1 tt c.field-direction.ensures (past 4 tt c.field-edition.ensures all) in
+    room tt (past 8 tt c.field-columns.ensures (past 3 tt c.field-layers.ensures past_direction))
 
 pub field-guide-requires : goal.field-guide-requires
-field-guide-requires c = room tt (past_grid c)
+field-guide-requires c =
+    let all : Left c.args.s.now 0 80 = all_left 80 (is_whole 80 _ _ c.whole.ensures c.if-not-whole.false-raw) (omega arith) in
+    let past_direction : Left c.args.s.now c.field-direction.result.next.at 75 = past 1 tt c.field-direction.ensures (past 4 tt c.field-edition.ensures all) in
+    let past_grid : Left c.args.s.now c.field-rows.result.next.at 56 = past 8 tt c.field-rows.ensures (past 8 tt c.field-columns.ensures (past 3 tt c.field-layers.ensures past_direction)) in
+    room tt past_grid
 
 pub field-short-requires : goal.field-short-requires
-field-short-requires c = room tt (past 16 tt c.field-guide.ensures (past_grid c))
+field-short-requires c =
+    let all : Left c.args.s.now 0 80 = all_left 80 (is_whole 80 _ _ c.whole.ensures c.if-not-whole.false-raw) (omega arith) in
+    let past_direction : Left c.args.s.now c.field-direction.result.next.at 75 = past 1 tt c.field-direction.ensures (past 4 tt c.field-edition.ensures all) in
+    let past_grid : Left c.args.s.now c.field-rows.result.next.at 56 = past 8 tt c.field-rows.ensures (past 8 tt c.field-columns.ensures (past 3 tt c.field-layers.ensures past_direction)) in
+    room tt (past 16 tt c.field-guide.ensures past_grid)
 
 -- what is left past the penalties
 past_penalties : (c : tie.After-field7)

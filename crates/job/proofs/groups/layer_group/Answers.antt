@@ -11,25 +11,27 @@ pub returns-then-not-whole : goal.returns-then-not-whole
 unfolding layer_group
 returns-then-not-whole c = rw (is_cut 40 _ _ c.whole.ensures c.if-not-whole.true-raw)
 
--- all bits of the group, where it is whole
-all : (c : tie.Else1) → (let args = c.before.before.before.args in Left args.s.now args.at 40)
-all c = all_left 40 (is_whole 40 _ _ c.before.whole.ensures c.if1.false) (omega arith)
-
 pub field-wire-requires : goal.field-wire-requires
-field-wire-requires c = room tt (all c)
+field-wire-requires c =
+    let all : (let args = c.args in Left args.s.now args.at 40) = all_left 40 (is_whole 40 _ _ c.whole.ensures c.if-not-whole.false-raw) (omega arith) in
+    room tt all
 
 pub field-via-requires : goal.field-via-requires
-field-via-requires c = room tt (past 10 tt c.field-wire.ensures (all c))
-
--- what is left past the two prices
-past_prices : (c : tie.After-field2) → Left c.before.before.before.before.before.args.s.now c.field2.result.next.at 20
-past_prices c = past 10 tt c.field2.ensures (past 10 tt c.before.field.ensures (all c.before.before))
+field-via-requires c =
+    let all : (let args = c.args in Left args.s.now args.at 40) = all_left 40 (is_whole 40 _ _ c.whole.ensures c.if-not-whole.false-raw) (omega arith) in
+    room tt (past 10 tt c.field-wire.ensures all)
 
 pub field-least-requires : goal.field-least-requires
-field-least-requires c = room tt (past_prices c)
+field-least-requires c =
+    let all : (let args = c.args in Left args.s.now args.at 40) = all_left 40 (is_whole 40 _ _ c.whole.ensures c.if-not-whole.false-raw) (omega arith) in
+    let past_prices : Left c.args.s.now c.field-via.result.next.at 20 = past 10 tt c.field-via.ensures (past 10 tt c.field-wire.ensures all) in
+    room tt past_prices
 
 pub field-area-requires : goal.field-area-requires
-field-area-requires c = room tt (past 4 tt c.field-least.ensures (past_prices c))
+field-area-requires c =
+    let all : (let args = c.args in Left args.s.now args.at 40) = all_left 40 (is_whole 40 _ _ c.whole.ensures c.if-not-whole.false-raw) (omega arith) in
+    let past_prices : Left c.args.s.now c.field-via.result.next.at 20 = past 10 tt c.field-via.ensures (past 10 tt c.field-wire.ensures all) in
+    room tt (past 4 tt c.field-least.ensures past_prices)
 
 pub returns : goal.returns
 unfolding layer_group layer_at

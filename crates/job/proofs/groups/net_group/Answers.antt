@@ -12,15 +12,15 @@ pub returns-then-not-whole : goal.returns-then-not-whole
 unfolding net_group
 returns-then-not-whole c = rw (is_cut 8 _ _ c.whole.ensures c.if-not-whole.true-raw)
 
--- all bits of the group, where it is whole
-all : (c : tie.Else1) → (let args = c.before.before.before.args in Left args.s.now args.at 8)
-all c = all_left 8 (is_whole 8 _ _ c.before.whole.ensures c.if1.false) (omega arith)
-
 pub field-pins-requires : goal.field-pins-requires
-field-pins-requires c = room tt (all c)
+field-pins-requires c =
+    let all : (let args = c.args in Left args.s.now args.at 8) = all_left 8 (is_whole 8 _ _ c.whole.ensures c.if-not-whole.false-raw) (omega arith) in
+    room tt all
 
 pub field-boxes-requires : goal.field-boxes-requires
-field-boxes-requires c = room tt (past 4 tt c.field-pins.ensures (all c))
+field-boxes-requires c =
+    let all : (let args = c.args in Left args.s.now args.at 8) = all_left 8 (is_whole 8 _ _ c.whole.ensures c.if-not-whole.false-raw) (omega arith) in
+    room tt (past 4 tt c.field-pins.ensures all)
 
 pub overflow_add-result : goal.overflow_add-result
 overflow_add-result c = omega (arith, value_below _ _ 4 c.field-pins.ensures)

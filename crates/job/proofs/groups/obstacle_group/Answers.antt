@@ -12,25 +12,27 @@ pub returns-then-not-whole : goal.returns-then-not-whole
 unfolding obstacle_group
 returns-then-not-whole c = rw (is_cut 27 _ _ c.whole.ensures c.if-not-whole.true-raw)
 
--- all bits of the group, where it is whole
-all : (c : tie.Else1) → (let args = c.before.before.before.args in Left args.s.now args.at 27)
-all c = all_left 27 (is_whole 27 _ _ c.before.whole.ensures c.if1.false) (omega arith)
-
 pub field-layer-requires : goal.field-layer-requires
-field-layer-requires c = room tt (all c)
+field-layer-requires c =
+    let all : (let args = c.args in Left args.s.now args.at 27) = all_left 27 (is_whole 27 _ _ c.whole.ensures c.if-not-whole.false-raw) (omega arith) in
+    room tt all
 
 pub field-row-requires : goal.field-row-requires
-field-row-requires c = room tt (past 3 tt c.field-layer.ensures (all c))
-
--- what is left past the row
-past_row : (c : tie.After-field2) → Left c.before.before.before.before.before.args.s.now c.field2.result.next.at 16
-past_row c = past 8 tt c.field2.ensures (past 3 tt c.before.field.ensures (all c.before.before))
+field-row-requires c =
+    let all : (let args = c.args in Left args.s.now args.at 27) = all_left 27 (is_whole 27 _ _ c.whole.ensures c.if-not-whole.false-raw) (omega arith) in
+    room tt (past 3 tt c.field-layer.ensures all)
 
 pub field-column-requires : goal.field-column-requires
-field-column-requires c = room tt (past_row c)
+field-column-requires c =
+    let all : (let args = c.args in Left args.s.now args.at 27) = all_left 27 (is_whole 27 _ _ c.whole.ensures c.if-not-whole.false-raw) (omega arith) in
+    let past_row : Left c.args.s.now c.field-row.result.next.at 16 = past 8 tt c.field-row.ensures (past 3 tt c.field-layer.ensures all) in
+    room tt past_row
 
 pub field-run-requires : goal.field-run-requires
-field-run-requires c = room tt (past 8 tt c.field-column.ensures (past_row c))
+field-run-requires c =
+    let all : (let args = c.args in Left args.s.now args.at 27) = all_left 27 (is_whole 27 _ _ c.whole.ensures c.if-not-whole.false-raw) (omega arith) in
+    let past_row : Left c.args.s.now c.field-row.result.next.at 16 = past 8 tt c.field-row.ensures (past 3 tt c.field-layer.ensures all) in
+    room tt (past 8 tt c.field-column.ensures past_row)
 
 pub overflow_add-result : goal.overflow_add-result
 overflow_add-result c = omega (arith, value_below _ _ 8 c.field-run.ensures)

@@ -11,18 +11,20 @@ pub returns-then-not-whole : goal.returns-then-not-whole
 unfolding vertex_group
 returns-then-not-whole c = rw (is_cut 19 _ _ c.whole.ensures c.if-not-whole.true-raw)
 
--- all bits of the group, where it is whole
-all : (c : tie.Else1) → (let args = c.before.before.before.args in Left args.s.now args.at 19)
-all c = all_left 19 (is_whole 19 _ _ c.before.whole.ensures c.if1.false) (omega arith)
-
 pub field-layer-requires : goal.field-layer-requires
-field-layer-requires c = room tt (all c)
+field-layer-requires c =
+    let all : (let args = c.args in Left args.s.now args.at 19) = all_left 19 (is_whole 19 _ _ c.whole.ensures c.if-not-whole.false-raw) (omega arith) in
+    room tt all
 
 pub field-row-requires : goal.field-row-requires
-field-row-requires c = room tt (past 3 tt c.field-layer.ensures (all c))
+field-row-requires c =
+    let all : (let args = c.args in Left args.s.now args.at 19) = all_left 19 (is_whole 19 _ _ c.whole.ensures c.if-not-whole.false-raw) (omega arith) in
+    room tt (past 3 tt c.field-layer.ensures all)
 
 pub field-column-requires : goal.field-column-requires
-field-column-requires c = room tt (past 8 tt c.field-row.ensures (past 3 tt c.field-layer.ensures (all c)))
+field-column-requires c =
+    let all : (let args = c.args in Left args.s.now args.at 19) = all_left 19 (is_whole 19 _ _ c.whole.ensures c.if-not-whole.false-raw) (omega arith) in
+    room tt (past 8 tt c.field-row.ensures (past 3 tt c.field-layer.ensures all))
 
 pub returns : goal.returns
 unfolding vertex_group vertex_at

@@ -12,7 +12,7 @@ use Rattle.lines.proofs.hexadecimal.put_more.Given as goal
 
 abbrev pub invariant-loop-k : goal.invariant-loop-k
 invariant-loop-k l =
-    let l.bytes₁ = take l.count l.bytes in
+    let bytes₁ = take l.count l.bytes in
     (l.from ≤ l.k) × (l.k ≤ l.count) × (l.next + 3 * (l.count - l.k) ≡ l.at + 3 * (l.count - l.from)) × ToPut l.initial.line l.at (hex_more (drop l.from bytes₁)) l.line l.next (hex_more (drop l.k bytes₁))
 
 abbrev pub decreases-loop-k : goal.decreases-loop-k

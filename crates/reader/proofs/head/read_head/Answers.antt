@@ -16,18 +16,17 @@ pub returns-in_default : goal.returns-in_default
 unfolding read_head ◌>>◌ rule head_read
 returns-in_default c = rw (cut_head _ (sym c.head_group.ensures ∙ c.in_default.is))
 
--- what the head's group holds where it is whole
-held : (c : tie.After-edition) → WholeHead c.before.before.before.before.args.s.now c.edition.given.0.0 c.edition.given.0.1.0
-held c = whole_head _ _ _ (sym c.before.before.head-group.ensures ∙ c.edition.given.1)
-
 pub returns-then-edition-ne1 : goal.returns-then-edition-ne1
 unfolding read_head ◌>>◌ rule head_read
 returns-then-edition-ne1 c =
-    let h = held c in
+    let held : WholeHead c.args.s.now c.in-Whole.edition c.in-Whole.head = whole_head _ _ _ (sym c.head_group.ensures ∙ c.in-Whole.is) in
+    let h = held in
     rw (h.whole, ← h.edition, ne_eqb _ 1 c.if-edition-ne1.true)
 
 pub vertices-requires : goal.vertices-requires
-vertices-requires c = rw (held c).head (head_small _)
+vertices-requires c =
+    let held : WholeHead c.args.s.now c.in-Whole.edition c.in-Whole.head = whole_head _ _ _ (sym c.head_group.ensures ∙ c.in-Whole.is) in
+    rw held.head (head_small _)
 
 -- the number of vertices is that of the head's grid
 counted : (c : tie.After-vertices)
@@ -37,12 +36,14 @@ counted c = c.vertices.ensures ∙ ap (λ (h : Head). vertices (grid_of h.grid))
 pub returns-then-vertices-gt16384 : goal.returns-then-vertices-gt16384
 unfolding read_head ◌>>◌ rule head_read
 returns-then-vertices-gt16384 c =
-    let h = held c in
+    let held : WholeHead c.args.s.now c.in-Whole.edition c.in-Whole.head = whole_head _ _ _ (sym c.head_group.ensures ∙ c.in-Whole.is) in
+    let h = held in
     rw (h.whole, ← h.edition, eq-eqb _ 1 c.if-edition-ne1.false, ← (counted c), lt-leb _ 16384 c.if-vertices-gt16384.true)
 
 pub returns : goal.returns
 unfolding read_head ◌>>◌ rule head_read
 returns c =
-    let h = held c in
+    let held : WholeHead c.args.s.now c.in-Whole.edition c.in-Whole.head = whole_head _ _ _ (sym c.head_group.ensures ∙ c.in-Whole.is) in
+    let h = held in
     rw (h.whole, ← h.edition, eq-eqb _ 1 c.if-edition-ne1.false, ← (counted c), le-leb _ 16384 c.if-vertices-gt16384.false)
     (ap HeadRead.Good h.head)

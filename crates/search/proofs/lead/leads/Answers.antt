@@ -16,12 +16,6 @@ step_from-requires c =
 abbrev start : tie.After-made → tie.Start
 start c = c.before.before.before.before.before.before.before
 
--- and what it leads to
-legal : (c : tie.After-made) → Led (start c).requires.0 (start c).args.seen.now (start c).args.number c.made.given.0.0
-legal c =
-    let pre = (start c).requires in
-    led pre.0 _ _ (c.before.before.step_from.ensures _ (settled_here pre.0 pre.1) refl) c.made.given.1
-
 pub returns-in_default : goal.returns-in_default
 returns-in_default c =
     let pre = c.requires in
@@ -30,7 +24,10 @@ returns-in_default c =
     (led_not pre.0 _ _ (c.step_from.ensures _ (settled_here pre.0 pre.1) refl) c.in_default.is)
 
 pub overflow_add-cost : goal.overflow_add-cost
-overflow_add-cost c = omega (arith, (legal c).price)
+overflow_add-cost c =
+    let legal : Led (start c).requires.0 (start c).args.seen.now (start c).args.number c.in-Legal.made = let pre = (start c).requires in
+    led pre.0 _ _ (c.step_from.ensures _ (settled_here pre.0 pre.1) refl) c.in-Legal.is in
+    omega (arith, legal.price)
 
 pub overflow_add-cost-2 : goal.overflow_add-cost-2
 overflow_add-cost-2 c =

@@ -30,19 +30,20 @@ overflow_cast-column c = omega (arith, c.requires.0.small.columns)
 pub in_box-inside-requires : goal.in_box-inside-requires
 in_box-inside-requires c = tt
 
--- the turn's vertex is one of the grid's
-below : (c : tie.After-number invariant-loop decreases-loop) → (let args = c.before.before.before.before.args in
-    Below (grid_of args.grid) (record { layer = args.layer; row = args.row; column = c.before.before.loop.column }))
-below c = let pre = c.before.before.before.before.requires in record { layer = pre.2; row = pre.3; column = c.before.loop-test.true }
-
 pub bounds-seen-v : goal.bounds-seen-v
-bounds-seen-v c = omega (arith, row_number _ _ _ _ (below c) c.number-v.ensures)
+bounds-seen-v c =
+    let below : (let args = c.args in
+    Below (grid_of args.grid) (record { layer = args.layer; row = args.row; column = c.loop-column.column })) = let pre = c.requires in record { layer = pre.2; row = pre.3; column = c.loop-column-test.true } in
+    omega (arith, row_number _ _ _ _ below c.number-v.ensures)
 
 pub guided_byte-requires : goal.guided_byte-requires
 guided_byte-requires c = tt
 
 pub bounds-seen-v-in-loop-column : goal.bounds-seen-v-in-loop-column
-bounds-seen-v-in-loop-column c = omega (arith, row_number _ _ _ _ (below c) c.number-v.ensures)
+bounds-seen-v-in-loop-column c =
+    let below : (let args = c.args in
+    Below (grid_of args.grid) (record { layer = args.layer; row = args.row; column = c.loop-column.column })) = let pre = c.requires in record { layer = pre.2; row = pre.3; column = c.loop-column-test.true } in
+    omega (arith, row_number _ _ _ _ below c.number-v.ensures)
 
 pub overflow_step-column : goal.overflow_step-column
 overflow_step-column c = omega arith
@@ -52,7 +53,9 @@ loop-column-smaller c = omega arith
 
 pub loop-column-preserved : goal.loop-column-preserved
 loop-column-preserved c =
-    row_turn _ _ _ _ c.loop-column.invariant (below c) (omega arith) c.number-v.ensures c.in_box-inside.ensures c.guided_byte.ensures
+    let below : (let args = c.args in
+    Below (grid_of args.grid) (record { layer = args.layer; row = args.row; column = c.loop-column.column })) = let pre = c.requires in record { layer = pre.2; row = pre.3; column = c.loop-column-test.true } in
+    row_turn _ _ _ _ c.loop-column.invariant below (omega arith) c.number-v.ensures c.in_box-inside.ensures c.guided_byte.ensures
 
 pub shape_of-seen : goal.shape_of-seen
 shape_of-seen c = c.loop-column.invariant.size
