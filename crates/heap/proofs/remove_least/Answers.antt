@@ -1,9 +1,9 @@
 -- `heap::remove_least` meets its contract: the last item goes to the front, or none is left.
 use borrow.Author.Rules.{rules}
-use mathlib.Core.Logic.{⊎_elim}
 use native.Mathlib.Omega.{arith}
 use Rattle.heap.proofs.Removing.{settle_asked, last_asked, drop_asked, drop_removed, one_done, clear_asked}
 use Rattle.heap.proofs.remove_least.Goals as goal
+use Rattle.heap.proofs.remove_least.Goals.{then-rest-gt0, else-rest-gt0}
 
 pub settle-requires : goal.settle-requires
 settle-requires c =
@@ -18,17 +18,16 @@ pub sift_down-requires : goal.sift_down-requires
 sift_down-requires c =
     drop_asked c.requires.0 (omega (arith, c.if-rest-gt0.true)) c.item_at-item.ensures c.item_at-last.ensures c.settle.ensures c.key_at.ensures
 
--- TODO returns
-returns : tie.Need-returns
+pub returns : goal.returns
 returns c =
-    let pre = c.before.before.before.before.before.before.before.before.before.before.requires in
-    let first = c.before.before.before.before.before.before.before.item-at.ensures in
-    let last = c.before.before.before.before.before.item-at2.ensures in
-    let leaving = c.before.before.before.settle.ensures in
-    ⊎_elim (λ w. rw w.7 (drop_removed pre.0 (omega (arith, w.0.taken)) first last leaving w.3.ensures w.4.ensures)) (λ w. rw w.1 (one_done pre.0 pre.1 (omega (arith, w.0.left)) first leaving)) c.if1.branch
+    let pre = c.requires in
+    let first = c.item_at-item.ensures in
+    let last = c.item_at-last.ensures in
+    let leaving = c.settle.ensures in
+    elim c.if-rest-gt0.branch [
+        then-rest-gt0 w ↦ rw w.work-is (drop_removed pre.0 (omega (arith, w.if-rest-gt0.true)) first last leaving w.key_at.ensures w.sift_down.ensures)
+      | else-rest-gt0 w ↦ rw w.work-is (one_done pre.0 pre.1 (omega (arith, w.if-rest-gt0.false)) first leaving)
+    ]
 
 pub bounds-work-n : goal.bounds-work-n
 bounds-work-n c = let pre = c.requires in clear_asked c.if-rest-gt0.work pre.0 pre.1 (returns c)
-
-pub shape_of-work : goal.shape_of-work
-shape_of-work c = (returns c).long

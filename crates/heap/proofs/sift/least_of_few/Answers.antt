@@ -7,6 +7,7 @@ use native.Mathlib.Omega.{arith}
 use Rattle.heap.specs.Sifts.{Lowest}
 use Rattle.heap.proofs.Tests.{keyed_asked, lowest_one, lowest_left, lowest_right}
 use Rattle.heap.proofs.sift.least_of_few.Goals as goal
+use Rattle.heap.proofs.sift.least_of_few.Goals.{then-key_at, else-key_at}
 
 pub loop-seat-init : goal.loop-seat-init
 loop-seat-init c = (lowest_one _ refl, omega (arith, c.requires.1))
@@ -22,7 +23,10 @@ loop-seat-preserved c =
     let low = c.loop-seat.invariant.0 in
     let own = c.key_at.ensures in
     let least = c.key_at-in-loop-seat.ensures in (
-      ⊎_elim (λ w. rw w.1 (lowest_right low (lowest_one _ refl) (omega (arith, own, least, w.0.taken)))) (λ w. rw w.1 (lowest_left low (lowest_one _ refl) (omega (arith, own, least, w.0.left)))) c.if-key_at.branch,
+      elim c.if-key_at.branch [
+          then-key_at w ↦ rw w.least-is (lowest_right low (lowest_one _ refl) (omega (arith, own, least, w.if-key_at.true)))
+        | else-key_at w ↦ rw w.least-is (lowest_left low (lowest_one _ refl) (omega (arith, own, least, w.if-key_at.false)))
+      ],
       omega (arith, c.loop-seat-test.true),
     )
 
