@@ -55,16 +55,21 @@ field-short-requires c =
     let past_grid : Left c.args.s.now c.field-rows.result.next.at 56 = past 8 tt c.field-rows.ensures (past 8 tt c.field-columns.ensures (past 3 tt c.field-layers.ensures past_direction)) in
     room tt (past 16 tt c.field-guide.ensures past_grid)
 
--- what is left past the penalties
-past_penalties : (c : tie.After-field7)
-    → Left c.before.before.before.before.before.before.before.before.before.before.args.s.now c.field7.result.next.at 24
-past_penalties c = past 16 tt c.field7.ensures (past 16 tt c.before.field6.ensures (past_grid c.before.before))
-
 pub field-nets-requires : goal.field-nets-requires
-field-nets-requires c = room tt (past_penalties c)
+field-nets-requires c =
+    let all : Left c.args.s.now 0 80 = all_left 80 (is_whole 80 _ _ c.whole.ensures c.if-not-whole.false-raw) (omega arith) in
+    let past_direction : Left c.args.s.now c.field-direction.result.next.at 75 = past 1 tt c.field-direction.ensures (past 4 tt c.field-edition.ensures all) in
+    let past_grid : Left c.args.s.now c.field-rows.result.next.at 56 = past 8 tt c.field-rows.ensures (past 8 tt c.field-columns.ensures (past 3 tt c.field-layers.ensures past_direction)) in
+    let past_penalties : Left c.args.s.now c.field-short.result.next.at 24 = past 16 tt c.field-short.ensures (past 16 tt c.field-guide.ensures past_grid) in
+    room tt past_penalties
 
 pub field-obstacles-requires : goal.field-obstacles-requires
-field-obstacles-requires c = room tt (past 8 tt c.field-nets.ensures (past_penalties c))
+field-obstacles-requires c =
+    let all : Left c.args.s.now 0 80 = all_left 80 (is_whole 80 _ _ c.whole.ensures c.if-not-whole.false-raw) (omega arith) in
+    let past_direction : Left c.args.s.now c.field-direction.result.next.at 75 = past 1 tt c.field-direction.ensures (past 4 tt c.field-edition.ensures all) in
+    let past_grid : Left c.args.s.now c.field-rows.result.next.at 56 = past 8 tt c.field-rows.ensures (past 8 tt c.field-columns.ensures (past 3 tt c.field-layers.ensures past_direction)) in
+    let past_penalties : Left c.args.s.now c.field-short.result.next.at 24 = past 16 tt c.field-short.ensures (past 16 tt c.field-guide.ensures past_grid) in
+    room tt (past 8 tt c.field-nets.ensures past_penalties)
 
 pub overflow_add-grid : goal.overflow_add-grid
 overflow_add-grid c = omega (arith, value_below _ _ 3 c.field-layers.ensures)

@@ -28,22 +28,19 @@ vertices-requires c =
     let held : WholeHead c.args.s.now c.in-Whole.edition c.in-Whole.head = whole_head _ _ _ (sym c.head_group.ensures ∙ c.in-Whole.is) in
     rw held.head (head_small _)
 
--- the number of vertices is that of the head's grid
-counted : (c : tie.After-vertices)
-    → c.vertices.result ≡ vertices (head_at (bits_of c.before.before.before.before.before.before.before.args.s.now) 0).grid
-counted c = c.vertices.ensures ∙ ap (λ (h : Head). vertices (grid_of h.grid)) (held c.before.before.before).head
-
 pub returns-then-vertices-gt16384 : goal.returns-then-vertices-gt16384
 unfolding read_head ◌>>◌ rule head_read
 returns-then-vertices-gt16384 c =
     let held : WholeHead c.args.s.now c.in-Whole.edition c.in-Whole.head = whole_head _ _ _ (sym c.head_group.ensures ∙ c.in-Whole.is) in
+    let counted : c.vertices.result ≡ vertices (head_at (bits_of c.args.s.now) 0).grid = c.vertices.ensures ∙ ap (λ (h : Head). vertices (grid_of h.grid)) held.head in
     let h = held in
-    rw (h.whole, ← h.edition, eq-eqb _ 1 c.if-edition-ne1.false, ← (counted c), lt-leb _ 16384 c.if-vertices-gt16384.true)
+    rw (h.whole, ← h.edition, eq-eqb _ 1 c.if-edition-ne1.false, ← counted, lt-leb _ 16384 c.if-vertices-gt16384.true)
 
 pub returns : goal.returns
 unfolding read_head ◌>>◌ rule head_read
 returns c =
     let held : WholeHead c.args.s.now c.in-Whole.edition c.in-Whole.head = whole_head _ _ _ (sym c.head_group.ensures ∙ c.in-Whole.is) in
+    let counted : c.vertices.result ≡ vertices (head_at (bits_of c.args.s.now) 0).grid = c.vertices.ensures ∙ ap (λ (h : Head). vertices (grid_of h.grid)) held.head in
     let h = held in
-    rw (h.whole, ← h.edition, eq-eqb _ 1 c.if-edition-ne1.false, ← (counted c), le-leb _ 16384 c.if-vertices-gt16384.false)
+    rw (h.whole, ← h.edition, eq-eqb _ 1 c.if-edition-ne1.false, ← counted, le-leb _ 16384 c.if-vertices-gt16384.false)
     (ap HeadRead.Good h.head)

@@ -14,42 +14,52 @@ pub returns-in_default : goal.returns-in_default
 returns-in_default c =
     absurd (net_uncut c.args.s.now c.args.at c.requires.2 c.net_group.ensures c.in_default.is)
 
--- the net's head is the one that stands there, with all that it counts
-there : (c : tie.After-known-told)
-    → NetThere c.before.before.before.before.before.args.s.now c.before.before.before.before.before.args.at c.before.net.given.0.0
-there c = net_there _ _ c.before.before.before.before.before.requires.2 c.before.before.before.net-group.ensures c.before.net.given.1
-
 pub overflow_add-boxes_at : goal.overflow_add-boxes_at
-overflow_add-boxes_at c = omega (arith, there c, c.requires.1)
+overflow_add-boxes_at c =
+    let there : NetThere c.args.s.now c.args.at c.in-Whole.net = net_there _ _ c.requires.2 c.net_group.ensures c.in-Whole.is in
+    omega (arith, there, c.requires.1)
 
 pub overflow_mul-boxes_at : goal.overflow_mul-boxes_at
-overflow_mul-boxes_at c = omega (arith, there c, c.requires.1)
+overflow_mul-boxes_at c =
+    let there : NetThere c.args.s.now c.args.at c.in-Whole.net = net_there _ _ c.requires.2 c.net_group.ensures c.in-Whole.is in
+    omega (arith, there, c.requires.1)
 
 pub overflow_add-boxes_at-2 : goal.overflow_add-boxes_at-2
-overflow_add-boxes_at-2 c = omega (arith, there c, c.requires.1)
+overflow_add-boxes_at-2 c =
+    let there : NetThere c.args.s.now c.args.at c.in-Whole.net = net_there _ _ c.requires.2 c.net_group.ensures c.in-Whole.is in
+    omega (arith, there, c.requires.1)
 
 pub overflow_add-at : goal.overflow_add-at
-overflow_add-at c = omega (arith, there c, c.requires.1)
+overflow_add-at c =
+    let there : NetThere c.args.s.now c.args.at c.in-Whole.net = net_there _ _ c.requires.2 c.net_group.ensures c.in-Whole.is in
+    omega (arith, there, c.requires.1)
 
 pub load_pins-requires : goal.load_pins-requires
 load_pins-requires c =
-    let h = there c in
+    let there : NetThere c.args.s.now c.args.at c.in-Whole.net = net_there _ _ c.requires.2 c.net_group.ensures c.in-Whole.is in
+    let h = there in
     let pre = c.requires in
     (pre.0, h.pins, pre.1, omega (arith, h.end))
 
 pub load_boxes-requires : goal.load_boxes-requires
 load_boxes-requires c =
-    let h = there c in
+    let there : NetThere c.args.s.now c.args.at c.in-Whole.net = net_there _ _ c.requires.2 c.net_group.ensures c.in-Whole.is in
+    let h = there in
     (h.boxes, c.requires.1, h.end)
 
 pub overflow_mul-result : goal.overflow_mul-result
-overflow_mul-result c = omega (arith, there c, c.requires.1)
+overflow_mul-result c =
+    let there : NetThere c.args.s.now c.args.at c.in-Whole.net = net_there _ _ c.requires.2 c.net_group.ensures c.in-Whole.is in
+    omega (arith, there, c.requires.1)
 
 pub overflow_add-result : goal.overflow_add-result
-overflow_add-result c = omega (arith, there c, c.requires.1)
+overflow_add-result c =
+    let there : NetThere c.args.s.now c.args.at c.in-Whole.net = net_there _ _ c.requires.2 c.net_group.ensures c.in-Whole.is in
+    omega (arith, there, c.requires.1)
 
 pub returns : goal.returns
 unfolding pins_loaded boxes_loaded
 returns c =
-    let h = there c in
+    let there : NetThere c.args.s.now c.args.at c.in-Whole.net = net_there _ _ c.requires.2 c.net_group.ensures c.in-Whole.is in
+    let h = there in
     (sym h.loaded, (rw h.loaded c.load_pins.ensures, rw h.loaded c.load_boxes.ensures))

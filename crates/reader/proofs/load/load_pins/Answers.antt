@@ -16,18 +16,17 @@ pub returns-in_default : goal.returns-in_default
 returns-in_default c =
     absurd (vertex_uncut c.args.s.now c.loop-pin.at (omega arith) c.vertex_group.ensures c.in_default.is)
 
--- the vertex is the one that stands there
-stands : (c : tie.After-known-told invariant-loop decreases-loop)
-    → c.before.vertex.given.0.0
-    ≡ vertex_struct (vertex_at (bits_of c.before.before.before.before.before.before.before.args.s.now) c.before.before.before.before.before.loop.at)
-stands c = vertex_told _ _ (omega arith) c.before.before.before.vertex-group.ensures c.before.vertex.given.1
-
 pub number-requires : goal.number-requires
-number-requires c = (c.requires.0, rw (stands c) (vertex_fields_lem _ _))
+number-requires c =
+    let stands : c.in-Whole.vertex
+    ≡ vertex_struct (vertex_at (bits_of c.args.s.now) c.loop-pin.at) = vertex_told _ _ (omega arith) c.vertex_group.ensures c.in-Whole.is in
+    (c.requires.0, rw stands (vertex_fields_lem _ _))
 
 pub loop-pin-preserved : goal.loop-pin-preserved
 loop-pin-preserved c =
-    pins_turn c.loop-pin-test.true c.loop-pin.invariant (stands c) c.number.ensures
+    let stands : c.in-Whole.vertex
+    ≡ vertex_struct (vertex_at (bits_of c.args.s.now) c.loop-pin.at) = vertex_told _ _ (omega arith) c.vertex_group.ensures c.in-Whole.is in
+    pins_turn c.loop-pin-test.true c.loop-pin.invariant stands c.number.ensures
 
 pub returns : goal.returns
 returns c = pins_end c.loop-pin-test.false c.loop-pin.invariant
