@@ -55,7 +55,6 @@ pub mod Rooms
 pub mod Firsts
 pub mod Runs
 pub mod Ends
-pub mod Lent
 pub mod Owed
 pub mod Entering
 pub mod Stepping

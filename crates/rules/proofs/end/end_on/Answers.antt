@@ -22,4 +22,4 @@ unfolding end_on
 returns-in-0 c = rw (c.in-0.is, c.room_toward.ensures) refl
 
 pub returns-in_default : goal.returns-in_default
-returns-in_default c = c.starting_end.ensures ∙ sym (later_end _ _ _ _ _ c.in_default.rest.1)
+returns-in_default c = c.starting_end.ensures ∙ sym (later_end _ _ _ _ _ c.in_default.in_default-own.rest.1)

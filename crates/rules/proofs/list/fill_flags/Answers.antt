@@ -23,4 +23,8 @@ pub shape_of-prices : goal.shape_of-prices
 shape_of-prices c = c.loop-byte.invariant.size
 
 pub returns : goal.returns
-returns c = (flags_all _ _ c.loop-byte.invariant c.loop-byte-test.false, flags_kept _ _ c.loop-byte.invariant)
+returns c =
+    record {
+      flags_to = flags_all _ _ c.loop-byte.invariant c.loop-byte-test.false;
+      same_lines = flags_kept _ _ c.loop-byte.invariant;
+    }

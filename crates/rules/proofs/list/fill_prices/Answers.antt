@@ -11,5 +11,5 @@ fill_flags-requires c = omega (arith, c.fill_flags-arg-1.given)
 
 pub returns : goal.returns
 returns c =
-    prices_filled _ _ c.requires c.fill_lines.ensures c.fill_flags.ensures.1
-    c.fill_flags.ensures.0
+    prices_filled _ _ c.requires c.fill_lines.ensures c.fill_flags.ensures.same_lines
+    c.fill_flags.ensures.flags_to

@@ -27,4 +27,4 @@ returns-in-2 c = rw c.in-2.is refl
 
 pub returns-in_default : goal.returns-in_default
 unfolding kind_by
-returns-in_default c = let (((none, not0), not1), not2) = c.in_default.rest in sym (later_up _ not0 not1 not2)
+returns-in_default c = let (((none, not0), not1), not2) = c.in_default.in_default-own.rest in sym (later_up _ not0 not1 not2)

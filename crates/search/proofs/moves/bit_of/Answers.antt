@@ -17,4 +17,4 @@ unfolding bit_of
 returns-in-2 c = rw c.in-2.is refl
 
 pub returns-in_default : goal.returns-in_default
-returns-in_default c = let (((none, not0), not1), not2) = c.in_default.rest in sym (last_bit _ not0 not1 not2)
+returns-in_default c = let (((none, not0), not1), not2) = c.in_default.in_default-own.rest in sym (last_bit _ not0 not1 not2)
