@@ -17,4 +17,7 @@ pub bounds-spots-into : goal.bounds-spots-into
 bounds-spots-into c = let pre = c.requires in omega (arith, pre.2, pre.0.vertices)
 
 pub returns : goal.returns
-returns c = (laid_then _ _ _ _ c.lay_extension.ensures c.lay.ensures, refl)
+returns c = record {
+      map = laid_then _ _ _ _ c.lay_extension.ensures c.lay.ensures;
+      spots = refl;
+    }

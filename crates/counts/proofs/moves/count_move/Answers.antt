@@ -45,11 +45,11 @@ count_if-requires-2 c =
 pub returns : goal.returns
 returns c =
     let pre = c.requires in
-    let layer = ap (λ x. x.layer) c.vertex_by-vertex.ensures in (
-      layer,
-      λ p left. move_counted _ _ p _ _ left layer pre.2 c.has.ensures c.has-taken.ensures
+    let layer = ap (λ x. x.layer) c.vertex_by-vertex.ensures in record {
+      layer = layer;
+      counts = λ p left. move_counted _ _ p _ _ left layer pre.2 c.has.ensures c.has-taken.ensures
           c.count_way.ensures
           c.add_count.ensures
           c.add_count-2.ensures
-          c.count_if.ensures c.count_if-2.ensures,
-    )
+          c.count_if.ensures c.count_if-2.ensures;
+    }

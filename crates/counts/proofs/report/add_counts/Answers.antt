@@ -5,10 +5,14 @@ use Rattle.counts.proofs.Reporting.{none_fits, room_short, room_over, room_whole
 use Rattle.counts.proofs.report.add_counts.Goals as goal
 
 pub returns-then-report-lt-COUNTS : goal.returns-then-report-lt-COUNTS
-returns-then-report-lt-COUNTS c = room_short _ _ c.if-report-lt-COUNTS.true
+returns-then-report-lt-COUNTS c =
+    let all = room_short _ _ c.if-report-lt-COUNTS.true in
+    record { answer = all.0; report = all.1 }
 
 pub returns-then-over-lt-COUNTS : goal.returns-then-over-lt-COUNTS
-returns-then-over-lt-COUNTS c = room_over _ _ c.if-report-lt-COUNTS.false c.first_over-over.ensures c.if-over-lt-COUNTS.true
+returns-then-over-lt-COUNTS c =
+    let all = room_over _ _ c.if-report-lt-COUNTS.false c.first_over-over.ensures c.if-over-lt-COUNTS.true in
+    record { answer = all.0; report = all.1 }
 
 pub add_all-requires : goal.add_all-requires
 add_all-requires c =
@@ -17,5 +21,6 @@ add_all-requires c =
 
 pub returns : goal.returns
 returns c =
-    room_whole _ _ c.if-report-lt-COUNTS.false c.first_over-over.ensures
-    c.if-over-lt-COUNTS.false c.add_all.ensures
+    let all = room_whole _ _ c.if-report-lt-COUNTS.false c.first_over-over.ensures
+    c.if-over-lt-COUNTS.false c.add_all.ensures in
+    record { answer = all.0; report = all.1 }

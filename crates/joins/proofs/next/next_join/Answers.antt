@@ -39,13 +39,12 @@ unfolding tech_by
 returns c =
     let pre = c.requires in
     let written = c.write_join-joined.ensures in
-    let cleared = c.clear.ensures in (
-      λ tree unjoined led apart. written_joined _ _ _ _ _ _ _ pre.0.good written tree unjoined led apart,
-      (
+    let cleared = c.clear.ensures in
+    let all = (
         written.fits,
         (
           λ v is. record_fewer _ _ _ _ v _ (rw written.tree at is),
           work_back c.places-n.ensures pre.2 cleared.0 cleared.1 (beyond_trans c.retrace_found-start.ensures.1.1 c.settle-found.ensures.1),
         ),
-      ),
-    )
+      ) in
+    record { written = λ tree unjoined led apart. written_joined _ _ _ _ _ _ _ pre.0.good written tree unjoined led apart; fits = all.0; fewer = all.1; work = all.2 }

@@ -41,7 +41,8 @@ returns-in_default c =
     let some = c.loop-left-test.true in
     let told = lead_read pre.0 _ charted _ inv.made.place c.code_of.ensures c.lead_at-number.ensures in
     let number = writing_number _ _ _ _ _ _ _ _ _ _ _ inv some pre.0 charted told in
-    absurd (writing_legal _ _ _ _ _ _ _ _ _ _ _ inv some number (c.step.ensures _ pre.0 pre.1 refl) c.in_default.is)
+    let all = absurd (writing_legal _ _ _ _ _ _ _ _ _ _ _ inv some number (c.step.ensures _ pre.0 pre.1 refl) c.in_default.is) in
+    record { walk = all.0; fits = all.1; spots = all.2; map = all.3; plan = all.4 }
 
 pub put-next-requires : goal.put-next-requires
 put-next-requires c =
@@ -101,5 +102,6 @@ loop-left-preserved c =
 
 pub returns : goal.returns
 returns c =
-    rw (begun_at c.walk_from-walk.ensures) at
-    (writing_done _ _ _ _ _ _ _ _ _ _ _ c.loop-left.invariant.3 c.loop-left-test.false c.requires.6)
+    let all = rw (begun_at c.walk_from-walk.ensures) at
+    (writing_done _ _ _ _ _ _ _ _ _ _ _ c.loop-left.invariant.3 c.loop-left-test.false c.requires.6) in
+    record { walk = all.0; fits = all.1; spots = all.2; map = all.3; plan = all.4 }

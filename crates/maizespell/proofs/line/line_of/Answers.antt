@@ -9,7 +9,10 @@ pub returns-then-bytes-gt65536 : goal.returns-then-bytes-gt65536
 returns-then-bytes-gt65536 c =
     let bytes = c.args.bytes.now in
     let put = c.put_too_large.ensures in
-    (rw (line_long bytes c.if-bytes-gt65536.true) put, written_within _ _ _ _ put)
+    record {
+      line = rw (line_long bytes c.if-bytes-gt65536.true) put;
+      counts = written_within _ _ _ _ put;
+    }
 
 pub read_job-read-requires : goal.read_job-read-requires
 read_job-read-requires c = zeros_bare
@@ -25,11 +28,17 @@ returns-in-Refused c =
     let bytes = c.args.bytes.now in
     let put = c.put_refused_line.ensures in
     let e = read_refused _ _ c.read_job-read.ensures.0 _ _ c.in-Refused.is in
-    (rw (line_refused bytes _ _ c.if-bytes-gt65536.false e) put, written_within _ _ _ _ put)
+    record {
+      line = rw (line_refused bytes _ _ c.if-bytes-gt65536.false e) put;
+      counts = written_within _ _ _ _ put;
+    }
 
 pub returns-in-At : goal.returns-in-At
 returns-in-At c =
     let bytes = c.args.bytes.now in
     let put = c.good_line.ensures in
     let read = read_at _ _ c.read_job-read.ensures.0 _ c.in-At.is in
-    (rw (line_good bytes _ _ _ c.if-bytes-gt65536.false read c.vertices.ensures c.largest_least.ensures) put, written_within _ _ _ _ put)
+    record {
+      line = rw (line_good bytes _ _ _ c.if-bytes-gt65536.false read c.vertices.ensures c.largest_least.ensures) put;
+      counts = written_within _ _ _ _ put;
+    }

@@ -36,4 +36,7 @@ pub shape_of-map : goal.shape_of-map
 shape_of-map c = c.loop-left.invariant.kept.size
 
 pub returns : goal.returns
-returns c = (c.loop-left.invariant.kept, pins_done c.loop-left.invariant c.loop-left-test.false)
+returns c = record {
+      kept = c.loop-left.invariant.kept;
+      codes = pins_done c.loop-left.invariant c.loop-left-test.false;
+    }

@@ -9,7 +9,9 @@ use Rattle.occupants.proofs.NetTurns.{net_cut, net_counts, net_rules}
 use Rattle.occupants.proofs.nets.read_net.Goals as goal
 
 pub returns-in_default : goal.returns-in_default
-returns-in_default c = told_refused (net_cut _ _ _ _ (sym c.net_group.ensures ∙ c.in_default.is))
+returns-in_default c =
+    let all = told_refused (net_cut _ _ _ _ (sym c.net_group.ensures ∙ c.in_default.is)) in
+    record { answer = all.0; occupants = all.1 }
 
 pub read_pins-pins-requires : goal.read_pins-pins-requires
 read_pins-pins-requires c = (
@@ -27,13 +29,15 @@ read_boxes-requires c =
 pub returns-in-At : goal.returns-in-At
 returns-in-At c =
     let pins = c.read_pins-pins.ensures in
-    told
+    let all = told
     ((net_rules _ _ _ _ _ (sym c.net_group.ensures ∙ c.in-Whole.is)).fine _ _ _ _
-    pins.0 pins.1 c.in-At.is c.read_boxes.ensures)
+    pins.0 pins.1 c.in-At.is c.read_boxes.ensures) in
+    record { answer = all.0; occupants = all.1 }
 
 pub returns-in-Refused : goal.returns-in-Refused
 returns-in-Refused c =
     let pins = c.read_pins-pins.ensures in
-    told_refused
+    let all = told_refused
     ((net_rules _ _ _ _ _ (sym c.net_group.ensures ∙ c.in-Whole.is)).blocked _ _ _ _
-    pins.0 pins.1 c.in-Refused.is)
+    pins.0 pins.1 c.in-Refused.is) in
+    record { answer = all.0; occupants = all.1 }

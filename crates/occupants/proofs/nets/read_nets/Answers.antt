@@ -15,9 +15,10 @@ read_net-read-requires c = (c.requires.0, omega arith)
 pub returns-in-Refused : goal.returns-in-Refused
 returns-in-Refused c =
     let read = c.read_net-read.ensures in
-    told_refused
+    let all = told_refused
     (nets_refused c.loop-left.invariant c.loop-left-test.true
-    read.0 read.1 c.in-Refused.is)
+    read.0 read.1 c.in-Refused.is) in
+    record { answer = all.0; occupants = all.1 }
 
 pub overflow_sub-left : goal.overflow_sub-left
 overflow_sub-left c = omega arith
@@ -32,4 +33,6 @@ loop-left-preserved c =
     read.0 read.1 c.in-At.is
 
 pub returns : goal.returns
-returns c = told_at (nets_done c.loop-left.invariant c.loop-left-test.false)
+returns c =
+    let all = told_at (nets_done c.loop-left.invariant c.loop-left-test.false) in
+    record { answer = all.0; occupants = all.1 }

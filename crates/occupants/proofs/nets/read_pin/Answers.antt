@@ -9,12 +9,15 @@ use Rattle.occupants.proofs.PinTurns.{pin_cut, pin_rules, index_below}
 use Rattle.occupants.proofs.nets.read_pin.Goals as goal
 
 pub returns-in_default : goal.returns-in_default
-returns-in_default c = told_refused (pin_cut _ _ _ _ (sym c.vertex_group.ensures ∙ c.in_default.is))
+returns-in_default c =
+    let all = told_refused (pin_cut _ _ _ _ (sym c.vertex_group.ensures ∙ c.in_default.is)) in
+    record { answer = all.0; occupants = all.1 }
 
 pub returns-then-not-inside : goal.returns-then-not-inside
 returns-then-not-inside c =
-    told_refused
-    ((pin_rules _ _ _ _ _ (sym c.vertex_group.ensures ∙ c.in-Whole.is)).outside (sym c.inside.ensures ∙ c.if-not-inside.true))
+    let all = told_refused
+    ((pin_rules _ _ _ _ _ (sym c.vertex_group.ensures ∙ c.in-Whole.is)).outside (sym c.inside.ensures ∙ c.if-not-inside.true)) in
+    record { answer = all.0; occupants = all.1 }
 
 pub number-vertex-requires : goal.number-vertex-requires
 number-vertex-requires c =
@@ -28,15 +31,17 @@ bounds-occupants-vertex c =
 
 pub returns-then-occupant-eq-OBSTACLE : goal.returns-then-occupant-eq-OBSTACLE
 returns-then-occupant-eq-OBSTACLE c =
-    told_refused
+    let all = told_refused
     ((pin_rules _ _ _ _ _ (sym c.vertex_group.ensures ∙ c.in-Whole.is)).blocked _
-    (sym c.inside.ensures ∙ c.if-not-inside.false) c.number-vertex.ensures c.if-occupant-eq-OBSTACLE.true)
+    (sym c.inside.ensures ∙ c.if-not-inside.false) c.number-vertex.ensures c.if-occupant-eq-OBSTACLE.true) in
+    record { answer = all.0; occupants = all.1 }
 
 pub returns-then-occupant-eq-PIN : goal.returns-then-occupant-eq-PIN
 returns-then-occupant-eq-PIN c =
-    told_refused
+    let all = told_refused
     ((pin_rules _ _ _ _ _ (sym c.vertex_group.ensures ∙ c.in-Whole.is)).taken _
-    (sym c.inside.ensures ∙ c.if-not-inside.false) c.number-vertex.ensures c.if-occupant-eq-PIN.true)
+    (sym c.inside.ensures ∙ c.if-not-inside.false) c.number-vertex.ensures c.if-occupant-eq-PIN.true) in
+    record { answer = all.0; occupants = all.1 }
 
 pub bounds-occupants-vertex-2 : goal.bounds-occupants-vertex-2
 bounds-occupants-vertex-2 c =
@@ -45,6 +50,7 @@ bounds-occupants-vertex-2 c =
 
 pub returns : goal.returns
 returns c =
-    told_at
+    let all = told_at
     ((pin_rules _ _ _ _ _ (sym c.vertex_group.ensures ∙ c.in-Whole.is)).fine _
-    (sym c.inside.ensures ∙ c.if-not-inside.false) c.number-vertex.ensures c.if-occupant-eq-OBSTACLE.false c.if-occupant-eq-PIN.false)
+    (sym c.inside.ensures ∙ c.if-not-inside.false) c.number-vertex.ensures c.if-occupant-eq-OBSTACLE.false c.if-occupant-eq-PIN.false) in
+    record { answer = all.0; occupants = all.1 }

@@ -23,7 +23,10 @@ unfolding answer_of occupants_of
 returns-in-Refused c =
     let read = sym c.read_obstacle-read.ensures ∙ c.in-Refused.is in
     let e = c.loop-left.invariant.1 ∙ obstacles_stop _ _ _ _ _ c.loop-left-test.true read in
-    (sym (ap answer_of e), sym (ap occupants_of e))
+    record {
+      answer = sym (ap answer_of e);
+      occupants = sym (ap occupants_of e);
+    }
 
 pub overflow_add-at : goal.overflow_add-at
 overflow_add-at c = omega arith
@@ -45,4 +48,7 @@ pub returns : goal.returns
 unfolding answer_of occupants_of
 returns c =
     let e = c.loop-left.invariant.1 ∙ obstacles_done _ _ _ _ _ c.loop-left-test.false in
-    (sym (ap answer_of e), sym (ap occupants_of e))
+    record {
+      answer = sym (ap answer_of e);
+      occupants = sym (ap occupants_of e);
+    }

@@ -11,14 +11,18 @@ returns-in-At-groups c =
     let p = c.requires in
     let read = c.read_groups-groups.ensures in
     let told = rest_good_job _ _ c.read_layers-lines.ensures _ _ c.in-At.is p.0.1.vertices (bare_occupants _ p.1) _ (sym read.0 ∙ c.in-At-groups.is) in
-    rw read.1 told
+    let all = rw read.1 told in
+    record { read = all.0; occupants = all.1 }
 
 pub returns-in-Refused-groups : goal.returns-in-Refused-groups
 returns-in-Refused-groups c =
     let p = c.requires in
-    told_refused_job _ _
+    let all = told_refused_job _ _
     (rest_refused_job _ _ c.read_layers-lines.ensures _ _ c.in-At.is p.0.1.vertices (bare_occupants _ p.1) _ _ (sym c.read_groups-groups.ensures.0 ∙ c.in-Refused-groups.is))
-    c.refused_job.ensures
+    c.refused_job.ensures in
+    record { read = all.0; occupants = all.1 }
 
 pub returns-in-Refused : goal.returns-in-Refused
-returns-in-Refused c = told_refused_job _ _ (lines_refused_job _ _ c.read_layers-lines.ensures _ _ c.in-Refused.is) c.refused_job-in-Refused.ensures
+returns-in-Refused c =
+    let all = told_refused_job _ _ (lines_refused_job _ _ c.read_layers-lines.ensures _ _ c.in-Refused.is) c.refused_job-in-Refused.ensures in
+    record { read = all.0; occupants = all.1 }

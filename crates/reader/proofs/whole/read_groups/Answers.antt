@@ -15,7 +15,9 @@ read_obstacles-obstacles-requires c =
 
 pub returns-in_default : goal.returns-in_default
 unfolding obstacles_at
-returns-in_default c = groups_blocked _ _ _ c.read_obstacles-obstacles.ensures.0 c.read_obstacles-obstacles.ensures.1 c.in_default.is
+returns-in_default c =
+    let all = groups_blocked _ _ _ c.read_obstacles-obstacles.ensures.0 c.read_obstacles-obstacles.ensures.1 c.in_default.is in
+    record { answer = all.0; occupants = all.1 }
 
 pub read_nets-nets-requires : goal.read_nets-nets-requires
 read_nets-nets-requires c =
@@ -27,7 +29,8 @@ pub returns-in_default-nets : goal.returns-in_default-nets
 unfolding obstacles_at
 returns-in_default-nets c =
     let obstacles = c.read_obstacles-obstacles.ensures in
-    groups_stopped _ _ _ obstacles.0 obstacles.1 c.in-At.is c.read_nets-nets.ensures.0 c.read_nets-nets.ensures.1 c.in_default-nets.is
+    let all = groups_stopped _ _ _ obstacles.0 obstacles.1 c.in-At.is c.read_nets-nets.ensures.0 c.read_nets-nets.ensures.1 c.in_default-nets.is in
+    record { answer = all.0; occupants = all.1 }
 
 pub read_tail-requires : goal.read_tail-requires
 read_tail-requires c =
@@ -41,4 +44,5 @@ unfolding obstacles_at
 returns c =
     let obstacles = c.read_obstacles-obstacles.ensures in
     let nets = c.read_nets-nets.ensures in
-    groups_through _ _ _ obstacles.0 obstacles.1 c.in-At.is nets.0 nets.1 c.in-At-nets.is c.read_tail.ensures
+    let all = groups_through _ _ _ obstacles.0 obstacles.1 c.in-At.is nets.0 nets.1 c.in-At-nets.is c.read_tail.ensures in
+    record { answer = all.0; occupants = all.1 }

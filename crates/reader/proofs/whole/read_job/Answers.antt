@@ -7,7 +7,9 @@ use Rattle.reader.proofs.Heads.{job_too_long, job_head_refused, job_past_head}
 use Rattle.reader.proofs.whole.read_job.Goals as goal
 
 pub returns-then-s-gt262144 : goal.returns-then-s-gt262144
-returns-then-s-gt262144 c = told_refused_job _ _ (job_too_long _ c.if-s-gt262144.true) c.refused_job.ensures
+returns-then-s-gt262144 c =
+    let all = told_refused_job _ _ (job_too_long _ c.if-s-gt262144.true) c.refused_job.ensures in
+    record { read = all.0; occupants = all.1 }
 
 pub read_after_head-requires : goal.read_after_head-requires
 read_after_head-requires c =
@@ -18,7 +20,10 @@ read_after_head-requires c =
 pub returns-in-Good : goal.returns-in-Good
 returns-in-Good c =
     let h = job_past_head _ _ c.if-s-gt262144.false (sym c.read_head-read.ensures ∙ c.in-Good.is) in
-    rw h.same c.read_after_head.ensures
+    let all = rw h.same c.read_after_head.ensures in
+    record { read = all.0; occupants = all.1 }
 
 pub returns-in-Refused : goal.returns-in-Refused
-returns-in-Refused c = told_refused_job _ _ (job_head_refused _ _ _ c.if-s-gt262144.false (sym c.read_head-read.ensures ∙ c.in-Refused.is)) c.refused_job-in-Refused.ensures
+returns-in-Refused c =
+    let all = told_refused_job _ _ (job_head_refused _ _ _ c.if-s-gt262144.false (sym c.read_head-read.ensures ∙ c.in-Refused.is)) c.refused_job-in-Refused.ensures in
+    record { read = all.0; occupants = all.1 }

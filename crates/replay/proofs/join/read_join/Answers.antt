@@ -36,7 +36,9 @@ end_join-requires c =
 
 pub returns-in-Refused : goal.returns-in-Refused
 unfolding tech_by
-returns-in-Refused c = refused_join _ _ _ _ _ _ _ c.read_start-start.ensures _ c.in-Refused.is
+returns-in-Refused c =
+    let all = refused_join _ _ _ _ _ _ _ c.read_start-start.ensures _ c.in-Refused.is in
+    record { answer = all.0; fits = all.1; spots = all.2; map = all.3; counts = all.4 }
 
 pub returns-in-At : goal.returns-in-At
 unfolding tech_by
@@ -44,6 +46,7 @@ returns-in-At c =
     let read = c.read_start-start.ensures in
     let start = c.in-At.is in
     let moves = c.read_moves-walked.ensures in
-    started_join _ _ _ _ _ _ _ read _ _ _ start
+    let all = started_join _ _ _ _ _ _ _ read _ _ _ start
     (start_bounds _ _ _ _ (bits_of_bits _) read start).1
-    moves.0 moves.1.1.0 moves.1.1.1.0 moves.1.1.1.1 c.end_join.ensures.0 c.end_join.ensures.1
+    moves.0 moves.1.1.0 moves.1.1.1.0 moves.1.1.1.1 c.end_join.ensures.0 c.end_join.ensures.1 in
+    record { answer = all.0; fits = all.1; spots = all.2; map = all.3; counts = all.4 }

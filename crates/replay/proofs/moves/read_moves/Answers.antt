@@ -61,7 +61,9 @@ walk_on-walk-requires c =
     )
 
 pub returns-in-Refused : goal.returns-in-Refused
-returns-in-Refused c = walking_refused _ _ _ _ _ _ _ _ _ c.loop-left.invariant c.loop-left-test.true c.judge_move-judged.ensures refl c.in-Refused.is
+returns-in-Refused c =
+    let all = walking_refused _ _ _ _ _ _ _ _ _ c.loop-left.invariant c.loop-left-test.true c.judge_move-judged.ensures refl c.in-Refused.is in
+    record { answer = all.0; fits = all.1; spots = all.2; map = all.3; counts = all.4 }
 
 pub overflow_add-at : goal.overflow_add-at
 overflow_add-at c =
@@ -81,4 +83,6 @@ loop-left-preserved c =
     entered.1 entered.0 c.walk_on-walk.ensures (c.count_move-layer.ensures.1 _ c.loop-left.invariant.level) c.count_move-layer.ensures.0
 
 pub returns : goal.returns
-returns c = walking_done _ _ _ _ _ _ _ _ _ c.loop-left.invariant c.loop-left-test.false c.requires.4
+returns c =
+    let all = walking_done _ _ _ _ _ _ _ _ _ c.loop-left.invariant c.loop-left-test.false c.requires.4 in
+    record { answer = all.0; fits = all.1; spots = all.2; map = all.3; counts = all.4 }

@@ -25,8 +25,9 @@ with_net-requires c = omega (arith, c.loop-left.invariant.joined, c.requires.4)
 
 pub returns-then-not-some_unjoined : goal.returns-then-not-some_unjoined
 returns-then-not-some_unjoined c =
-    recording_joined _ _ _ _ _ _ _ _ _ _ c.loop-left.invariant c.loop-left-test.true (sym c.some_unjoined.ensures ∙ c.if-not-some_unjoined.true) c.requires.3.few
-    c.with_net.ensures
+    let all = recording_joined _ _ _ _ _ _ _ _ _ _ c.loop-left.invariant c.loop-left-test.true (sym c.some_unjoined.ensures ∙ c.if-not-some_unjoined.true) c.requires.3.few
+    c.with_net.ensures in
+    record { answer = all.0; fits = all.1; map = all.2; counts = all.3 }
 
 pub read_flag-flag-requires : goal.read_flag-flag-requires
 read_flag-flag-requires c =
@@ -35,8 +36,9 @@ read_flag-flag-requires c =
 
 pub returns-in-Cut : goal.returns-in-Cut
 returns-in-Cut c =
-    recording_cut _ _ _ _ _ _ _ _ _ _ c.loop-left.invariant c.loop-left-test.true (sym c.some_unjoined.ensures ∙ c.if-not-some_unjoined.false) c.read_flag-flag.ensures
-    c.in-Cut.is
+    let all = recording_cut _ _ _ _ _ _ _ _ _ _ c.loop-left.invariant c.loop-left-test.true (sym c.some_unjoined.ensures ∙ c.if-not-some_unjoined.false) c.read_flag-flag.ensures
+    c.in-Cut.is in
+    record { answer = all.0; fits = all.1; map = all.2; counts = all.3 }
 
 pub overflow_add-result : goal.overflow_add-result
 overflow_add-result c =
@@ -45,8 +47,9 @@ overflow_add-result c =
 
 pub returns-in-None : goal.returns-in-None
 returns-in-None c =
-    recording_none _ _ _ _ _ _ _ _ _ _ c.loop-left.invariant c.loop-left-test.true (sym c.some_unjoined.ensures ∙ c.if-not-some_unjoined.false) c.read_flag-flag.ensures
-    c.in-None.is c.requires.3.few
+    let all = recording_none _ _ _ _ _ _ _ _ _ _ c.loop-left.invariant c.loop-left-test.true (sym c.some_unjoined.ensures ∙ c.if-not-some_unjoined.false) c.read_flag-flag.ensures
+    c.in-None.is c.requires.3.few in
+    record { answer = all.0; fits = all.1; map = all.2; counts = all.3 }
 
 pub overflow_add-at : goal.overflow_add-at
 overflow_add-at c =
@@ -62,8 +65,9 @@ read_join-joined-requires c =
 pub returns-in-Refused : goal.returns-in-Refused
 returns-in-Refused c =
     let read = c.read_join-joined.ensures in
-    recording_refused _ _ _ _ _ _ _ _ _ _ c.loop-left.invariant c.loop-left-test.true (sym c.some_unjoined.ensures ∙ c.if-not-some_unjoined.false) c.read_flag-flag.ensures
-    c.in-Join.is _ read.0 c.in-Refused.is read.1.1.1.0 _
+    let all = recording_refused _ _ _ _ _ _ _ _ _ _ c.loop-left.invariant c.loop-left-test.true (sym c.some_unjoined.ensures ∙ c.if-not-some_unjoined.false) c.read_flag-flag.ensures
+    c.in-Join.is _ read.0 c.in-Refused.is read.1.1.1.0 _ in
+    record { answer = all.0; fits = all.1; map = all.2; counts = all.3 }
 
 pub with_join-totals-requires : goal.with_join-totals-requires
 unfolding JoinFits
@@ -93,4 +97,6 @@ pub with_net-requires-2 : goal.with_net-requires-2
 with_net-requires-2 c = omega (arith, c.loop-left.invariant.joined, c.requires.4)
 
 pub returns : goal.returns
-returns c = recording_done _ _ _ _ _ _ _ _ _ _ c.loop-left.invariant c.loop-left-test.false c.requires.3.few c.with_net-2.ensures
+returns c =
+    let all = recording_done _ _ _ _ _ _ _ _ _ _ c.loop-left.invariant c.loop-left-test.false c.requires.3.few c.with_net-2.ensures in
+    record { answer = all.0; fits = all.1; map = all.2; counts = all.3 }

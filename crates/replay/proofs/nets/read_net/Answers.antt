@@ -9,4 +9,6 @@ pub read_records-requires : goal.read_records-requires
 read_records-requires c = c.requires
 
 pub returns : goal.returns
-returns c = rw c.begin_tree.ensures at c.read_records.ensures
+returns c =
+    let all = rw c.begin_tree.ensures at c.read_records.ensures in
+    record { answer = all.0; fits = all.1; map = all.2; counts = all.3 }

@@ -71,7 +71,8 @@ returns-in-Refused c =
     let loaded = c.load_net-loaded.ensures in
     let both = netting_refused _ _ _ _ _ _ _ inv some loaded.0 loaded.1.0 loaded.1.1 _ seen _ _ read.0 read.1.1.0 read.1.1.1 c.in-Refused.is in
     let kept = netting_kept _ _ _ _ _ _ _ inv some loaded.0 loaded.1.0 loaded.1.1 _ seen _ _ read.0 read.1.1.0 read.1.1.1 in
-    (λ j is. (both j is).0, (tt, (kept, λ j is. (both j is).1)))
+    let all = (tt, (kept, λ j is. (both j is).1)) in
+    record { answer = λ j is. (both j is).0; fits = all.0; kept = all.1; counts = all.2 }
 
 pub overflow_sub-left : goal.overflow_sub-left
 overflow_sub-left c = c.loop-left-test.true
@@ -95,4 +96,5 @@ pub returns : goal.returns
 returns c =
     let inv = c.loop-left.invariant in
     let both = netting_done _ _ _ _ _ _ _ inv c.loop-left-test.false in
-    (λ j is. (both j is).0, (fits_all _ _ _ _ _ _ _ inv, (nets_kept _ _ _ _ _ inv.nets, λ j is. (both j is).1)))
+    let all = (fits_all _ _ _ _ _ _ _ inv, (nets_kept _ _ _ _ _ inv.nets, λ j is. (both j is).1)) in
+    record { answer = λ j is. (both j is).0; fits = all.0; kept = all.1; counts = all.2 }

@@ -42,10 +42,9 @@ returns c =
     let kept = c.lay_all_pins.ensures.0 in
     let read = c.read_nets-read.ensures in
     let ended = c.end_plan-replayed.ensures in
-    let finished = count_finished _ _ _ count c.finish_map.ensures in (
-      plan_answer _ _ _ _ _ _ pre zeros kept _ _ _ read.0 read.1.1.0 ended finished,
-      (
+    let finished = count_finished _ _ _ count c.finish_map.ensures in
+    let all = (
         plan_map _ _ _ _ _ _ pre zeros kept _ _ _ read.0 read.1.1.0 ended finished,
         λ j is. plan_counted j _ _ _ (read.1.1.1 j is),
-      ),
-    )
+      ) in
+    record { answer = plan_answer _ _ _ _ _ _ pre zeros kept _ _ _ read.0 read.1.1.0 ended finished; map = all.0; counts = all.1 }

@@ -20,13 +20,16 @@ replay_plan-replayed-requires c =
 pub returns-in-Short : goal.returns-in-Short
 returns-in-Short c =
     let short = room_short c.requires.0 _ _ c.room_for-room.ensures c.in-Short.is in
-    (replay_refused _ _ _ _ short c.refused_replay.ensures, counts_none _ _ _ _ _ _ short)
+    record {
+      outcome = replay_refused _ _ _ _ short c.refused_replay.ensures;
+      counts = counts_none _ _ _ _ _ _ short;
+    }
 
 pub returns-in-Enough : goal.returns-in-Enough
 returns-in-Enough c =
     let h = c.requires.0 in
     let enough = room_enough h _ _ c.room_for-room.ensures c.in-Enough.is in
-    let read = c.replay_plan-replayed.ensures in (
-      replay_read_lem _ _ _ _ enough.read (c.result_of.ensures _ (read.0 h.job h.read)) (read.1.0 h.job h.read) (rw h.work at c.zero_words.ensures),
-      λ j room. read.1.1 j (room_read _ _ _ j room),
-    )
+    let read = c.replay_plan-replayed.ensures in record {
+      outcome = replay_read_lem _ _ _ _ enough.read (c.result_of.ensures _ (read.0 h.job h.read)) (read.1.0 h.job h.read) (rw h.work at c.zero_words.ensures);
+      counts = λ j room. read.1.1 j (room_read _ _ _ j room);
+    }

@@ -9,7 +9,9 @@ pub replay_counted-result-requires : goal.replay_counted-result-requires
 replay_counted-result-requires c = zeros_fit 48
 
 pub returns-then-result-ne0 : goal.returns-then-result-ne0
-returns-then-result-ne0 c = report_parts _ _ _ _ _ (report_turned _ _ _ _ c.replay_counted-result.ensures.0 _ c.if-result-ne0.true)
+returns-then-result-ne0 c =
+    let all = report_parts _ _ _ _ _ (report_turned _ _ _ _ c.replay_counted-result.ensures.0 _ c.if-result-ne0.true) in
+    record { result = all.0; map = all.1; work = all.2; report = all.3; pays = all.4 }
 
 pub report_counts-requires : goal.report_counts-requires
 report_counts-requires c =
@@ -20,4 +22,5 @@ pub returns : goal.returns
 returns c =
     let replayed = c.replay_counted-result.ensures in
     let added = c.report_counts.ensures in
-    report_parts _ _ _ _ _ (report_taken _ _ _ _ replayed.0 _ _ c.if-result-ne0.false replayed.1 added.0 added.1)
+    let all = report_parts _ _ _ _ _ (report_taken _ _ _ _ replayed.0 _ _ c.if-result-ne0.false replayed.1 added.0 added.1) in
+    record { result = all.0; map = all.1; work = all.2; report = all.3; pays = all.4 }

@@ -9,9 +9,15 @@ add_counts-added-requires c = c.requires
 pub returns-in-Refused : goal.returns-in-Refused
 returns-in-Refused c =
     let added = c.add_counts-added.ensures in
-    (added_refused _ _ added.0 c.in-Refused.is c.refused_replay.ensures, added.1)
+    record {
+      res = added_refused _ _ added.0 c.in-Refused.is c.refused_replay.ensures;
+      report = added.1;
+    }
 
 pub returns-in-Whole : goal.returns-in-Whole
 returns-in-Whole c =
     let added = c.add_counts-added.ensures in
-    (added_whole _ _ added.0 c.in-Whole.is, added.1)
+    record {
+      res = added_whole _ _ added.0 c.in-Whole.is;
+      report = added.1;
+    }

@@ -19,8 +19,11 @@ route_job-requires c =
 
 pub returns-in-Refused : goal.returns-in-Refused
 returns-in-Refused c =
-    routing_parts _ _ _ _ (routes_refused _ _ _ _ (refused_room _ _ _ (read_refused _ _ c.read_job-read.ensures.0 _ _ c.in-Refused.is))
-    c.refused_routing.ensures)
+    let all = routing_parts _ _ _ _ (routes_refused _ _ _ _ (refused_room _ _ _ (read_refused _ _ c.read_job-read.ensures.0 _ _ c.in-Refused.is))
+    c.refused_routing.ensures) in
+    record { result = all.0; map = all.1; work = all.2; plan = all.3; cheapest = all.4; ties = all.5 }
 
 pub returns-in-At : goal.returns-in-At
-returns-in-At c = routing_parts _ _ _ _ c.route_job.ensures
+returns-in-At c =
+    let all = routing_parts _ _ _ _ c.route_job.ensures in
+    record { result = all.0; map = all.1; work = all.2; plan = all.3; cheapest = all.4; ties = all.5 }

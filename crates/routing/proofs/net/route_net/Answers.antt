@@ -21,4 +21,6 @@ route_records-requires c =
     )
 
 pub returns : goal.returns
-returns c = rw c.begin_tree.ensures at c.route_records.ensures
+returns c =
+    let all = rw c.begin_tree.ensures at c.route_records.ensures in
+    record { answer = all.0; fits = all.1; work = all.2 }

@@ -29,7 +29,8 @@ pub returns-then-not-some_unjoined : goal.returns-then-not-some_unjoined
 returns-then-not-some_unjoined c =
     let inv = c.loop-left.invariant in
     let (answer, fits) = recording_joined _ _ _ _ _ _ _ _ _ inv.0 c.requires.4.there.few (sym c.some_unjoined.ensures ∙ c.if-not-some_unjoined.true) c.with_net.ensures in
-    (answer, (fits, inv.1))
+    let all = (fits, inv.1) in
+    record { answer = answer; fits = all.0; work = all.1 }
 
 pub next_join-joined-requires : goal.next_join-joined-requires
 next_join-joined-requires c =
@@ -59,7 +60,8 @@ returns-in-None c =
     let (written, (fits, (fewer, work))) = c.next_join-joined.ensures in
     let (routed, small) = recording_none _ _ _ _ _ _ _ _ _ inv.0 c.requires.4.there.few c.loop-left-test.true some _ _ _ _
     written c.in-None.is in
-    (routed, (small, work ∙ inv.1))
+    let all = (small, work ∙ inv.1) in
+    record { answer = routed; fits = all.0; work = all.1 }
 
 pub with_join-totals-requires : goal.with_join-totals-requires
 unfolding JoinedFits
@@ -98,4 +100,5 @@ pub returns : goal.returns
 returns c =
     let inv = c.loop-left.invariant in
     let (answer, fits) = recording_done _ _ _ _ _ _ _ _ _ inv.0 c.requires.4.there.few c.loop-left-test.false c.with_net-2.ensures in
-    (answer, (fits, inv.1))
+    let all = (fits, inv.1) in
+    record { answer = answer; fits = all.0; work = all.1 }

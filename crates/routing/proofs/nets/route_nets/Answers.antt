@@ -84,4 +84,5 @@ shape_of-plan c = c.loop-left.invariant.0.long
 pub returns : goal.returns
 returns c =
     let inv = c.loop-left.invariant in
-    (netting_done _ _ _ _ _ inv.0 c.loop-left-test.false, (fits_all _ _ _ _ _ inv.0, inv.1))
+    let all = (fits_all _ _ _ _ _ inv.0, inv.1) in
+    record { answer = netting_done _ _ _ _ _ inv.0 c.loop-left-test.false; fits = all.0; work = all.1 }

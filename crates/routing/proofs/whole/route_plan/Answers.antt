@@ -38,13 +38,12 @@ returns c =
     let count = c.vertices-count.ensures in
     let zeros = count-zeroed _ count c.zero_codes.ensures in
     let kept = c.lay_all_pins.ensures.0 in
-    let (routed, (fits, work)) = c.route_nets-routed.ensures in (
-      routed_answer _ _ _ _ _ _ held zeros kept _ _ routed,
-      (
+    let (routed, (fits, work)) = c.route_nets-routed.ensures in
+    let all = (
         fits.reach,
         (
           routed-map _ _ _ _ _ _ held zeros kept _ _ routed count c.put_obstacles.ensures,
           (routed_plan _ _ _ _ _ _ held zeros kept _ _ routed, work),
         ),
-      ),
-    )
+      ) in
+    record { answer = routed_answer _ _ _ _ _ _ held zeros kept _ _ routed; fits = all.0; map = all.1; plan = all.2; work = all.3 }

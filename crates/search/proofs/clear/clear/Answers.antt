@@ -20,4 +20,7 @@ returns c =
     let emptied = c.clear_heap.ensures in
     let unlisted = c.clear_list.ensures in
     let laid = c.requires.1 in
-    (cleared_bare _ laid emptied _ unlisted, cleared_kept _ laid emptied _ unlisted (c.work-2-1.given ∙ c.work-1.given))
+    record {
+      bare = cleared_bare _ laid emptied _ unlisted;
+      kept = cleared_kept _ laid emptied _ unlisted (c.work-2-1.given ∙ c.work-1.given);
+    }

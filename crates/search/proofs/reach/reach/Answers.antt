@@ -13,7 +13,10 @@ pub returns-in_default : goal.returns-in_default
 returns-in_default c =
     let pre = c.requires in
     let attempt = c.try_move-attempt.ensures in
-    (reach_not _ _ pre.0.fits.good pre.0.good pre.1 pre.5 attempt c.in_default.is, attempt.owed)
+    record {
+      reached = reach_not _ _ pre.0.fits.good pre.0.good pre.1 pre.5 attempt c.in_default.is;
+      owed = attempt.owed;
+    }
 
 pub arrive-reached-requires : goal.arrive-reached-requires
 arrive-reached-requires c =
@@ -23,4 +26,7 @@ arrive-reached-requires c =
 pub returns : goal.returns
 returns c =
     let attempt = c.try_move-attempt.ensures in
-    (c.arrive-reached.ensures _ (attempt_to _ _ _ attempt c.in-To.is), attempt.owed)
+    record {
+      reached = c.arrive-reached.ensures _ (attempt_to _ _ _ attempt c.in-To.is);
+      owed = attempt.owed;
+    }

@@ -72,4 +72,7 @@ returns c =
     let inv = c.loop-number.invariant.0 in
     let left = item_bound pre.0 pre.1.3.known _ c.place_of-place.ensures c.args.bounds.now c.vertex_by-vertex.ensures c.bound_of.ensures in
     let all : c.loop-number.number ≡ 4 = omega (arith, inv.few, c.loop-number-test.false) in
-    (λ settled distance is. rw (left, distance_by _ _ distance is, all) at (inv.turns settled), inv.kept)
+    record {
+      turned = λ settled distance is. rw (left, distance_by _ _ distance is, all) at (inv.turns settled);
+      kept = inv.kept;
+    }

@@ -21,4 +21,6 @@ pub loop-number-preserved : goal.loop-number-preserved
 loop-number-preserved c = let lit = c.light_one.ensures in lighting_on _ _ _ c.loop-number.invariant c.loop-number-test.true lit.0 lit.1.0 lit.1.1
 
 pub returns : goal.returns
-returns c = let inv = c.loop-number.invariant in (lighting_done _ _ _ inv c.loop-number-test.false, (inv.stays, inv.bytes))
+returns c = let inv = c.loop-number.invariant in
+    let all = (inv.stays, inv.bytes) in
+    record { lit = lighting_done _ _ _ inv c.loop-number-test.false; stays = all.0; long = all.1 }

@@ -10,7 +10,8 @@ entered_by-requires c = let pre = c.requires in (record { small = pre.0.small; t
 pub returns-in_default : goal.returns-in_default
 returns-in_default c =
     let pre = c.requires in
-    (λ u e. absurd (none_entered _ pre.0 pre.1 c.entered_by.ensures c.in_default.is u e), (λ u m on. on, pre.3))
+    let all = (λ u m on. on, pre.3) in
+    record { lit = λ u e. absurd (none_entered _ pre.0 pre.1 c.entered_by.ensures c.in_default.is u e); stays = all.0; long = all.1 }
 
 pub bounds-near-u : goal.bounds-near-u
 bounds-near-u c =
@@ -35,5 +36,6 @@ returns c =
     let near = c.args.near.now in
     let entered = c.entered_by.ensures in
     let into = c.in-At.is in
-    rw c.with_move.ensures
-    (one_lit _ pre.0 pre.1 entered into near pre.3 _, (lit_stays _ pre.0 pre.1 entered into near pre.3 _, lit_long _ pre.0 pre.1 entered into near pre.3 _))
+    let all = rw c.with_move.ensures
+    (one_lit _ pre.0 pre.1 entered into near pre.3 _, (lit_stays _ pre.0 pre.1 entered into near pre.3 _, lit_long _ pre.0 pre.1 entered into near pre.3 _)) in
+    record { lit = all.0; stays = all.1; long = all.2 }

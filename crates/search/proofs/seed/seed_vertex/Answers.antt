@@ -12,7 +12,10 @@ pub bounds-spots-vertex : goal.bounds-spots-vertex
 bounds-spots-vertex c = in_array c.requires.0 c.requires.2
 
 pub returns-then-spots-vertex-ne-ON_TREE : goal.returns-then-spots-vertex-ne-ON_TREE
-returns-then-spots-vertex-ne-ON_TREE c = (λ off. (refl, refl), λ on. absurd (c.if-spots-vertex-ne-ON_TREE.true on))
+returns-then-spots-vertex-ne-ON_TREE c = record {
+      off = λ off. (refl, refl);
+      on = λ on. absurd (c.if-spots-vertex-ne-ON_TREE.true on);
+    }
 
 pub code_of-code-requires : goal.code_of-code-requires
 code_of-code-requires c = let pre = c.requires in start_asked pre.0 pre.2
@@ -35,4 +38,7 @@ returns c =
     let pre = c.requires in
     let left = start_left pre.0 pre.2 c.args.bounds.now c.bound_at.ensures in
     let made = start_made pre.0 pre.2 c.code_of-code.ensures in
-    (λ off. absurd (off c.if-spots-vertex-ne-ON_TREE.false), λ on. rw (← left, ← made, ← c.places.ensures) c.lower.ensures)
+    record {
+      off = λ off. absurd (off c.if-spots-vertex-ne-ON_TREE.false);
+      on = λ on. rw (← left, ← made, ← c.places.ensures) c.lower.ensures;
+    }

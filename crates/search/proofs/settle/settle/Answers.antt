@@ -38,7 +38,10 @@ returns-then-front-top c =
     let key = c.key_at-top.ensures in
     let inv = c.loop-front.invariant in
     let one = least_some counted inv.0 c.loop-front-test.true key in
-    (ended_best _ _ _ c.requires.0.good inv.0 counted one key c.if-front-top.true, beyond_trans inv.1 c.seed.ensures.1.1)
+    record {
+      found = ended_best _ _ _ c.requires.0.good inv.0 counted one key c.if-front-top.true;
+      kept = beyond_trans inv.1 c.seed.ensures.1.1;
+    }
 
 pub settle_next-item-requires : goal.settle_next-item-requires
 settle_next-item-requires c =
@@ -80,4 +83,7 @@ loop-front-preserved c =
 pub returns : goal.returns
 returns c =
     let inv = c.loop-front.invariant in
-    (ended_none _ _ _ c.requires.0.good inv.0 c.loop-front-test.false, beyond_trans inv.1 c.seed.ensures.1.1)
+    record {
+      found = ended_none _ _ _ c.requires.0.good inv.0 c.loop-front-test.false;
+      kept = beyond_trans inv.1 c.seed.ensures.1.1;
+    }

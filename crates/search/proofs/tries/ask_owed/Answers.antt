@@ -15,7 +15,10 @@ use Rattle.search.proofs.tries.ask_owed.Goals as goal
 
 pub returns-then-owed-lt-UNASKED : goal.returns-then-owed-lt-UNASKED
 unfolding OwedFor
-returns-then-owed-lt-UNASKED c = (c.requires.2 c.if-owed-lt-UNASKED.true, c.if-owed-lt-UNASKED.true)
+returns-then-owed-lt-UNASKED c = record {
+      told = c.requires.2 c.if-owed-lt-UNASKED.true;
+      small = c.if-owed-lt-UNASKED.true;
+    }
 
 pub track_of-track-requires : goal.track_of-track-requires
 track_of-track-requires c =
@@ -45,7 +48,10 @@ returns-in-Closed c =
     let pre = c.requires in
     let here = settled_here pre.0 pre.1 in
     let told = c.overhead_price.ensures ∙ owed_told _ _ _ _ (c.line_at.ensures ∙ line_told here) (c.overhead_of-overhead.ensures _ here c.track_of-track.ensures) in
-    (closed_owed pre.0 _ told c.in-Closed.is, omega arith)
+    record {
+      told = closed_owed pre.0 _ told c.in-Closed.is;
+      small = omega arith;
+    }
 
 pub returns-in-Price : goal.returns-in-Price
 unfolding owed_cost tech_by
@@ -53,4 +59,7 @@ returns-in-Price c =
     let pre = c.requires in
     let here = settled_here pre.0 pre.1 in
     let told = c.overhead_price.ensures ∙ owed_told _ _ _ _ (c.line_at.ensures ∙ line_told here) (c.overhead_of-overhead.ensures _ here c.track_of-track.ensures) in
-    (price_owed pre.0 _ told c.in-Price.is, omega (arith, price_small pre.0 _ told c.in-Price.is))
+    record {
+      told = price_owed pre.0 _ told c.in-Price.is;
+      small = omega (arith, price_small pre.0 _ told c.in-Price.is);
+    }

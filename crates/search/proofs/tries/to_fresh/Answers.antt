@@ -10,7 +10,10 @@ use Rattle.search.proofs.tries.to_fresh.Goals as goal
 
 pub returns-in_default : goal.returns-in_default
 unfolding tried_of cost_of by_owed
-returns-in_default c = (rw (charged _ c.from_field.ensures c.in_default.is) refl, refl)
+returns-in_default c = record {
+      tried = rw (charged _ c.from_field.ensures c.in_default.is) refl;
+      owed = refl;
+    }
 
 pub overflow_add-result : goal.overflow_add-result
 overflow_add-result c =
@@ -19,4 +22,7 @@ overflow_add-result c =
 
 pub returns : goal.returns
 unfolding tried_of cost_of by_owed segment_of
-returns c = (rw (charged _ c.from_field.ensures c.in-Price.is) refl, refl)
+returns c = record {
+      tried = rw (charged _ c.from_field.ensures c.in-Price.is) refl;
+      owed = refl;
+    }

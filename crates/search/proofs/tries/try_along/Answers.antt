@@ -17,7 +17,10 @@ pub returns-in_default : goal.returns-in_default
 unfolding tried_of
 returns-in_default c =
     let pre = c.requires in
-    (priced_shut _ _ _ _ (sym (c.entry_of.ensures _ (settled_here pre.0 pre.1) refl) ∙ c.in_default.is), refl)
+    record {
+      tried = priced_shut _ _ _ _ (sym (c.entry_of.ensures _ (settled_here pre.0 pre.1) refl) ∙ c.in_default.is);
+      owed = refl;
+    }
 
 pub line_at-line-requires : goal.line_at-line-requires
 line_at-line-requires c =
@@ -32,11 +35,17 @@ unfolding tried_of grown_of
 returns-in_default-grow c =
     let pre = c.requires in
     let least = ap (λ (l : Layer). l.least) (c.line_at-line.ensures ∙ line_told (settled_here pre.0 pre.1)) in
-    (priced_back _ _ _ _ (sym (c.entry_of.ensures _ (settled_here pre.0 pre.1) refl) ∙ c.in-Open.is) pre.2 least (sym c.grow.ensures ∙ ap grown_of c.in_default-grow.is), refl)
+    record {
+      tried = priced_back _ _ _ _ (sym (c.entry_of.ensures _ (settled_here pre.0 pre.1) refl) ∙ c.in-Open.is) pre.2 least (sym c.grow.ensures ∙ ap grown_of c.in_default-grow.is);
+      owed = refl;
+    }
 
 pub returns : goal.returns
 unfolding tried_of grown_of
 returns c =
     let pre = c.requires in
     let least = ap (λ (l : Layer). l.least) (c.line_at-line.ensures ∙ line_told (settled_here pre.0 pre.1)) in
-    (priced_along _ _ _ _ (sym (c.entry_of.ensures _ (settled_here pre.0 pre.1) refl) ∙ c.in-Open.is) pre.2 least (sym c.grow.ensures ∙ ap grown_of c.in-To.is), refl)
+    record {
+      tried = priced_along _ _ _ _ (sym (c.entry_of.ensures _ (settled_here pre.0 pre.1) refl) ∙ c.in-Open.is) pre.2 least (sym c.grow.ensures ∙ ap grown_of c.in-To.is);
+      owed = refl;
+    }
