@@ -90,5 +90,5 @@ returns c =
     let f = start_led _ _ _ pre.0.good charted lowest in
     let counted = c.count_moves-count.ensures in
     let walked = c.write_moves-walk.ensures in
-    written_first _ _ _ _ _ _ f.record_is f.few counted walked.0 walked.1.0 walked.1.1.0 walked.1.1.1.0
-    (record_put _ _ _ _ _ _ counted c.put_start.ensures walked.1.1.1.1 c.put_cost.ensures)
+    written_first _ _ _ _ _ _ f.record_is f.few counted walked.walk walked.fits walked.spots walked.map
+    (record_put _ _ _ _ _ _ counted c.put_start.ensures walked.plan c.put_cost.ensures)

@@ -23,16 +23,16 @@ pub retrace_found-start-requires : goal.retrace_found-start-requires
 retrace_found-start-requires c =
     let pre = c.requires in
     let filled = c.fill_bounds.ensures in
-    (pre.0, pre.1, c.settle-found.ensures.0, filled.0, filled.1)
+    (pre.0, pre.1, c.settle-found.ensures.found, filled.0, filled.1)
 
 pub write_join-joined-requires : goal.write_join-joined-requires
-write_join-joined-requires c = let pre = c.requires in (pre.0, pre.1, c.retrace_found-start.ensures.0, pre.3, pre.4)
+write_join-joined-requires c = let pre = c.requires in (pre.0, pre.1, c.retrace_found-start.ensures.told, pre.3, pre.4)
 
 pub places-n-requires : goal.places-n-requires
 places-n-requires c = c.requires.0
 
 pub clear-requires : goal.clear-requires
-clear-requires c = rw c.places-n.ensures c.retrace_found-start.ensures.1.0
+clear-requires c = rw c.places-n.ensures c.retrace_found-start.ensures.laid
 
 pub returns : goal.returns
 unfolding tech_by
@@ -40,11 +40,9 @@ returns c =
     let pre = c.requires in
     let written = c.write_join-joined.ensures in
     let cleared = c.clear.ensures in
-    let all = (
-        written.fits,
-        (
-          λ v is. record_fewer _ _ _ _ v _ (rw written.tree at is),
-          work_back c.places-n.ensures pre.2 cleared.0 cleared.1 (beyond_trans c.retrace_found-start.ensures.1.1 c.settle-found.ensures.1),
-        ),
-      ) in
-    record { written = λ tree unjoined led apart. written_joined _ _ _ _ _ _ _ pre.0.good written tree unjoined led apart; fits = all.0; fewer = all.1; work = all.2 }
+    record {
+      written = λ tree unjoined led apart. written_joined _ _ _ _ _ _ _ pre.0.good written tree unjoined led apart;
+      fits = written.fits;
+      fewer = λ v is. record_fewer _ _ _ _ v _ (rw written.tree at is);
+      work = work_back c.places-n.ensures pre.2 cleared.bare cleared.kept (beyond_trans c.retrace_found-start.ensures.kept c.settle-found.ensures.kept);
+    }

@@ -22,6 +22,6 @@ pub returns : goal.returns
 returns c =
     let (last, laid) = laid_end c.requires.2 in
     let led = c.retrace.ensures in (
-      record { found = λ below. (_, led.0, led.1.0); none = λ none. absurd (omega (arith, none, c.if-best-ge-NONE.false)) },
-      ((last, led.1.1.0 _ last laid), led.1.1.1),
+      record { found = λ below. (_, led.charted, led.start); none = λ none. absurd (omega (arith, none, c.if-best-ge-NONE.false)) },
+      ((last, led.laid _ last laid), led.kept),
     )

@@ -42,7 +42,7 @@ returns-in_default c =
     let told = lead_read pre.0 _ charted _ inv.made.place c.code_of.ensures c.lead_at-number.ensures in
     let number = writing_number _ _ _ _ _ _ _ _ _ _ _ inv some pre.0 charted told in
     let all = absurd (writing_legal _ _ _ _ _ _ _ _ _ _ _ inv some number (c.step.ensures _ pre.0 pre.1 refl) c.in_default.is) in
-    record { walk = all.0; fits = all.1; spots = all.2; map = all.3; plan = all.4 }
+    record { walk = all.0; fits = all.1.0; spots = all.1.1.0; map = all.1.1.1.0; plan = all.1.1.1.1 }
 
 pub put-next-requires : goal.put-next-requires
 put-next-requires c =
@@ -98,10 +98,10 @@ loop-left-preserved c =
     let pre = c.requires in
     let told = lead_read pre.0 _ charted _ inv.made.place c.code_of.ensures c.lead_at-number.ensures in
     let number = writing_number _ _ _ _ _ _ _ _ _ _ _ inv some pre.0 charted told in
-    (so_far.0, so_far.1, charted, writing_on _ _ _ _ _ _ _ _ _ _ _ inv some number (c.step.ensures _ pre.0 pre.1 refl) _ c.in-Legal.is pre.0 charted entered.1 entered.0 written.1 written.0 c.walk_on-walk.ensures)
+    (so_far.0, so_far.1, charted, writing_on _ _ _ _ _ _ _ _ _ _ _ inv some number (c.step.ensures _ pre.0 pre.1 refl) _ c.in-Legal.is pre.0 charted entered.spots entered.map written.1 written.0 c.walk_on-walk.ensures)
 
 pub returns : goal.returns
 returns c =
     let all = rw (begun_at c.walk_from-walk.ensures) at
     (writing_done _ _ _ _ _ _ _ _ _ _ _ c.loop-left.invariant.3 c.loop-left-test.false c.requires.6) in
-    record { walk = all.0; fits = all.1; spots = all.2; map = all.3; plan = all.4 }
+    record { walk = all.0; fits = all.1.0; spots = all.1.1.0; map = all.1.1.1.0; plan = all.1.1.1.1 }

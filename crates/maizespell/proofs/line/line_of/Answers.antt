@@ -18,16 +18,16 @@ pub read_job-read-requires : goal.read_job-read-requires
 read_job-read-requires c = zeros_bare
 
 pub vertices-requires : goal.vertices-requires
-vertices-requires c = (read_at _ _ c.read_job-read.ensures.0 _ c.in-At.is).small
+vertices-requires c = (read_at _ _ c.read_job-read.ensures.read _ c.in-At.is).small
 
 pub largest_least-requires : goal.largest_least-requires
-largest_least-requires c = (read_at _ _ c.read_job-read.ensures.0 _ c.in-At.is).eight
+largest_least-requires c = (read_at _ _ c.read_job-read.ensures.read _ c.in-At.is).eight
 
 pub returns-in-Refused : goal.returns-in-Refused
 returns-in-Refused c =
     let bytes = c.args.bytes.now in
     let put = c.put_refused_line.ensures in
-    let e = read_refused _ _ c.read_job-read.ensures.0 _ _ c.in-Refused.is in
+    let e = read_refused _ _ c.read_job-read.ensures.read _ _ c.in-Refused.is in
     record {
       line = rw (line_refused bytes _ _ c.if-bytes-gt65536.false e) put;
       counts = written_within _ _ _ _ put;
@@ -37,7 +37,7 @@ pub returns-in-At : goal.returns-in-At
 returns-in-At c =
     let bytes = c.args.bytes.now in
     let put = c.good_line.ensures in
-    let read = read_at _ _ c.read_job-read.ensures.0 _ c.in-At.is in
+    let read = read_at _ _ c.read_job-read.ensures.read _ c.in-At.is in
     record {
       line = rw (line_good bytes _ _ _ c.if-bytes-gt65536.false read c.vertices.ensures c.largest_least.ensures) put;
       counts = written_within _ _ _ _ put;

@@ -19,7 +19,7 @@ pub overflow_add-net : goal.overflow_add-net
 overflow_add-net c = omega (arith, number_below c.loop-left.invariant c.loop-left-test.true)
 
 pub lay_pins-requires : goal.lay_pins-requires
-lay_pins-requires c = pins_asked c.loop-left.invariant c.loop-left-test.true c.load_net-loaded.ensures.0 c.load_net-loaded.ensures.1.0
+lay_pins-requires c = pins_asked c.loop-left.invariant c.loop-left-test.true c.load_net-loaded.ensures.counts c.load_net-loaded.ensures.pins
 
 pub overflow_sub-left : goal.overflow_sub-left
 overflow_sub-left c = omega (arith, c.loop-left-test.true)
@@ -30,7 +30,7 @@ loop-left-smaller c = omega (arith, c.loop-left-test.true)
 pub loop-left-preserved : goal.loop-left-preserved
 loop-left-preserved c =
     let loaded = c.load_net-loaded.ensures in
-    pins_on c.loop-left.invariant c.loop-left-test.true loaded.0 loaded.1.0 c.lay_pins.ensures
+    pins_on c.loop-left.invariant c.loop-left-test.true loaded.counts loaded.pins c.lay_pins.ensures
 
 pub shape_of-map : goal.shape_of-map
 shape_of-map c = c.loop-left.invariant.kept.size

@@ -23,7 +23,7 @@ read_pins-pins-requires c = (
 pub read_boxes-requires : goal.read_boxes-requires
 read_boxes-requires c =
     let counts = net_counts _ _ _ (sym c.net_group.ensures ∙ c.in-Whole.is) in
-    let position = pins_position _ _ _ _ _ c.read_pins-pins.ensures.0 c.in-At.is in
+    let position = pins_position _ _ _ _ _ c.read_pins-pins.ensures.answer c.in-At.is in
     (counts.boxes, omega (arith, counts.pins, c.requires.1))
 
 pub returns-in-At : goal.returns-in-At
@@ -31,7 +31,7 @@ returns-in-At c =
     let pins = c.read_pins-pins.ensures in
     let all = told
     ((net_rules _ _ _ _ _ (sym c.net_group.ensures ∙ c.in-Whole.is)).fine _ _ _ _
-    pins.0 pins.1 c.in-At.is c.read_boxes.ensures) in
+    pins.answer pins.occupants c.in-At.is c.read_boxes.ensures) in
     record { answer = all.0; occupants = all.1 }
 
 pub returns-in-Refused : goal.returns-in-Refused
@@ -39,5 +39,5 @@ returns-in-Refused c =
     let pins = c.read_pins-pins.ensures in
     let all = told_refused
     ((net_rules _ _ _ _ _ (sym c.net_group.ensures ∙ c.in-Whole.is)).blocked _ _ _ _
-    pins.0 pins.1 c.in-Refused.is) in
+    pins.answer pins.occupants c.in-Refused.is) in
     record { answer = all.0; occupants = all.1 }

@@ -17,7 +17,7 @@ returns-in-Refused c =
     let read = c.read_net-read.ensures in
     let all = told_refused
     (nets_refused c.loop-left.invariant c.loop-left-test.true
-    read.0 read.1 c.in-Refused.is) in
+    read.answer read.occupants c.in-Refused.is) in
     record { answer = all.0; occupants = all.1 }
 
 pub overflow_sub-left : goal.overflow_sub-left
@@ -30,7 +30,7 @@ pub loop-left-preserved : goal.loop-left-preserved
 loop-left-preserved c =
     let read = c.read_net-read.ensures in
     nets_next c.loop-left.invariant c.loop-left-test.true
-    read.0 read.1 c.in-At.is
+    read.answer read.occupants c.in-At.is
 
 pub returns : goal.returns
 returns c =

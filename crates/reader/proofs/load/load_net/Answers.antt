@@ -13,7 +13,7 @@ net_group-requires c = omega (arith, net_head_there c.args.s.now c.args.at c.req
 pub returns-in_default : goal.returns-in_default
 returns-in_default c =
     let all = absurd (net_uncut c.args.s.now c.args.at c.requires.2 c.net_group.ensures c.in_default.is) in
-    record { counts = all.0; pins = all.1; boxes = all.2 }
+    record { counts = all.0; pins = all.1.0; boxes = all.1.1 }
 
 pub overflow_add-boxes_at : goal.overflow_add-boxes_at
 overflow_add-boxes_at c =
@@ -63,5 +63,8 @@ unfolding pins_loaded boxes_loaded
 returns c =
     let there : NetThere c.args.s.now c.args.at c.in-Whole.net = net_there _ _ c.requires.2 c.net_group.ensures c.in-Whole.is in
     let h = there in
-    let all = (rw h.loaded c.load_pins.ensures, rw h.loaded c.load_boxes.ensures) in
-    record { counts = sym h.loaded; pins = all.0; boxes = all.1 }
+    record {
+      counts = sym h.loaded;
+      pins = rw h.loaded c.load_pins.ensures;
+      boxes = rw h.loaded c.load_boxes.ensures;
+    }

@@ -16,12 +16,12 @@ read_obstacles-obstacles-requires c =
 pub returns-in_default : goal.returns-in_default
 unfolding obstacles_at
 returns-in_default c =
-    let all = groups_blocked _ _ _ c.read_obstacles-obstacles.ensures.0 c.read_obstacles-obstacles.ensures.1 c.in_default.is in
+    let all = groups_blocked _ _ _ c.read_obstacles-obstacles.ensures.answer c.read_obstacles-obstacles.ensures.occupants c.in_default.is in
     record { answer = all.0; occupants = all.1 }
 
 pub read_nets-nets-requires : goal.read_nets-nets-requires
 read_nets-nets-requires c =
-    let position = ends_at _ (obstacles_end _ _ _ _ _) (sym c.read_obstacles-obstacles.ensures.0 ∙ c.in-At.is) in
+    let position = ends_at _ (obstacles_end _ _ _ _ _) (sym c.read_obstacles-obstacles.ensures.answer ∙ c.in-At.is) in
     let pre = c.requires in
     (pre.1, pre.2, omega (arith, position, pre.1.small.layers, pre.3))
 
@@ -29,13 +29,13 @@ pub returns-in_default-nets : goal.returns-in_default-nets
 unfolding obstacles_at
 returns-in_default-nets c =
     let obstacles = c.read_obstacles-obstacles.ensures in
-    let all = groups_stopped _ _ _ obstacles.0 obstacles.1 c.in-At.is c.read_nets-nets.ensures.0 c.read_nets-nets.ensures.1 c.in_default-nets.is in
+    let all = groups_stopped _ _ _ obstacles.answer obstacles.occupants c.in-At.is c.read_nets-nets.ensures.answer c.read_nets-nets.ensures.occupants c.in_default-nets.is in
     record { answer = all.0; occupants = all.1 }
 
 pub read_tail-requires : goal.read_tail-requires
 read_tail-requires c =
-    let position = ends_at _ (obstacles_end _ _ _ _ _) (sym c.read_obstacles-obstacles.ensures.0 ∙ c.in-At.is) in
-    let end = ends_at _ (nets_end _ _ _ _ _) (sym c.read_nets-nets.ensures.0 ∙ c.in-At-nets.is) in
+    let position = ends_at _ (obstacles_end _ _ _ _ _) (sym c.read_obstacles-obstacles.ensures.answer ∙ c.in-At.is) in
+    let end = ends_at _ (nets_end _ _ _ _ _) (sym c.read_nets-nets.ensures.answer ∙ c.in-At-nets.is) in
     let pre = c.requires in
     (pre.0, omega (arith, position, end, pre.1.small.layers, pre.2, pre.3))
 
@@ -44,5 +44,5 @@ unfolding obstacles_at
 returns c =
     let obstacles = c.read_obstacles-obstacles.ensures in
     let nets = c.read_nets-nets.ensures in
-    let all = groups_through _ _ _ obstacles.0 obstacles.1 c.in-At.is nets.0 nets.1 c.in-At-nets.is c.read_tail.ensures in
+    let all = groups_through _ _ _ obstacles.answer obstacles.occupants c.in-At.is nets.answer nets.occupants c.in-At-nets.is c.read_tail.ensures in
     record { answer = all.0; occupants = all.1 }

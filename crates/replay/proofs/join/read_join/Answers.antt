@@ -32,13 +32,13 @@ overflow_add-at-in-At-2 c = omega (arith, c.requires.3, (start_bounds _ _ _ _ (b
 
 pub end_join-requires : goal.end_join-requires
 end_join-requires c =
-    (omega (arith, c.requires.3, (start_bounds _ _ _ _ (bits_of_bits _) c.read_start-start.ensures c.in-At.is).1), c.read_moves-walked.ensures.1.0)
+    (omega (arith, c.requires.3, (start_bounds _ _ _ _ (bits_of_bits _) c.read_start-start.ensures c.in-At.is).1), c.read_moves-walked.ensures.fits)
 
 pub returns-in-Refused : goal.returns-in-Refused
 unfolding tech_by
 returns-in-Refused c =
     let all = refused_join _ _ _ _ _ _ _ c.read_start-start.ensures _ c.in-Refused.is in
-    record { answer = all.0; fits = all.1; spots = all.2; map = all.3; counts = all.4 }
+    record { answer = all.0; fits = all.1.0; spots = all.1.1.0; map = all.1.1.1.0; counts = all.1.1.1.1 }
 
 pub returns-in-At : goal.returns-in-At
 unfolding tech_by
@@ -48,5 +48,5 @@ returns-in-At c =
     let moves = c.read_moves-walked.ensures in
     let all = started_join _ _ _ _ _ _ _ read _ _ _ start
     (start_bounds _ _ _ _ (bits_of_bits _) read start).1
-    moves.0 moves.1.1.0 moves.1.1.1.0 moves.1.1.1.1 c.end_join.ensures.0 c.end_join.ensures.1 in
-    record { answer = all.0; fits = all.1; spots = all.2; map = all.3; counts = all.4 }
+    moves.answer moves.spots moves.map moves.counts c.end_join.ensures.answer c.end_join.ensures.fits in
+    record { answer = all.0; fits = all.1.0; spots = all.1.1.0; map = all.1.1.1.0; counts = all.1.1.1.1 }

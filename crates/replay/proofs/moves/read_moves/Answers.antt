@@ -63,7 +63,7 @@ walk_on-walk-requires c =
 pub returns-in-Refused : goal.returns-in-Refused
 returns-in-Refused c =
     let all = walking_refused _ _ _ _ _ _ _ _ _ c.loop-left.invariant c.loop-left-test.true c.judge_move-judged.ensures refl c.in-Refused.is in
-    record { answer = all.0; fits = all.1; spots = all.2; map = all.3; counts = all.4 }
+    record { answer = all.0; fits = all.1.0; spots = all.1.1.0; map = all.1.1.1.0; counts = all.1.1.1.1 }
 
 pub overflow_add-at : goal.overflow_add-at
 overflow_add-at c =
@@ -80,9 +80,9 @@ pub loop-left-preserved : goal.loop-left-preserved
 loop-left-preserved c =
     let entered = c.enter_move.ensures in
     walking_on _ _ _ _ _ _ _ _ _ c.loop-left.invariant c.loop-left-test.true _ _ c.judge_move-judged.ensures c.in-Good.is c.requires.0 refl
-    entered.1 entered.0 c.walk_on-walk.ensures (c.count_move-layer.ensures.1 _ c.loop-left.invariant.level) c.count_move-layer.ensures.0
+    entered.spots entered.map c.walk_on-walk.ensures (c.count_move-layer.ensures.counts _ c.loop-left.invariant.level) c.count_move-layer.ensures.layer
 
 pub returns : goal.returns
 returns c =
     let all = walking_done _ _ _ _ _ _ _ _ _ c.loop-left.invariant c.loop-left-test.false c.requires.4 in
-    record { answer = all.0; fits = all.1; spots = all.2; map = all.3; counts = all.4 }
+    record { answer = all.0; fits = all.1.0; spots = all.1.1.0; map = all.1.1.1.0; counts = all.1.1.1.1 }

@@ -27,7 +27,7 @@ pub returns-then-not-some_unjoined : goal.returns-then-not-some_unjoined
 returns-then-not-some_unjoined c =
     let all = recording_joined _ _ _ _ _ _ _ _ _ _ c.loop-left.invariant c.loop-left-test.true (sym c.some_unjoined.ensures ∙ c.if-not-some_unjoined.true) c.requires.3.few
     c.with_net.ensures in
-    record { answer = all.0; fits = all.1; map = all.2; counts = all.3 }
+    record { answer = all.0; fits = all.1.0; map = all.1.1.0; counts = all.1.1.1 }
 
 pub read_flag-flag-requires : goal.read_flag-flag-requires
 read_flag-flag-requires c =
@@ -38,7 +38,7 @@ pub returns-in-Cut : goal.returns-in-Cut
 returns-in-Cut c =
     let all = recording_cut _ _ _ _ _ _ _ _ _ _ c.loop-left.invariant c.loop-left-test.true (sym c.some_unjoined.ensures ∙ c.if-not-some_unjoined.false) c.read_flag-flag.ensures
     c.in-Cut.is in
-    record { answer = all.0; fits = all.1; map = all.2; counts = all.3 }
+    record { answer = all.0; fits = all.1.0; map = all.1.1.0; counts = all.1.1.1 }
 
 pub overflow_add-result : goal.overflow_add-result
 overflow_add-result c =
@@ -49,7 +49,7 @@ pub returns-in-None : goal.returns-in-None
 returns-in-None c =
     let all = recording_none _ _ _ _ _ _ _ _ _ _ c.loop-left.invariant c.loop-left-test.true (sym c.some_unjoined.ensures ∙ c.if-not-some_unjoined.false) c.read_flag-flag.ensures
     c.in-None.is c.requires.3.few in
-    record { answer = all.0; fits = all.1; map = all.2; counts = all.3 }
+    record { answer = all.0; fits = all.1.0; map = all.1.1.0; counts = all.1.1.1 }
 
 pub overflow_add-at : goal.overflow_add-at
 overflow_add-at c =
@@ -66,13 +66,13 @@ pub returns-in-Refused : goal.returns-in-Refused
 returns-in-Refused c =
     let read = c.read_join-joined.ensures in
     let all = recording_refused _ _ _ _ _ _ _ _ _ _ c.loop-left.invariant c.loop-left-test.true (sym c.some_unjoined.ensures ∙ c.if-not-some_unjoined.false) c.read_flag-flag.ensures
-    c.in-Join.is _ read.0 c.in-Refused.is read.1.1.1.0 _ in
-    record { answer = all.0; fits = all.1; map = all.2; counts = all.3 }
+    c.in-Join.is _ read.answer c.in-Refused.is read.map _ in
+    record { answer = all.0; fits = all.1.0; map = all.1.1.0; counts = all.1.1.1 }
 
 pub with_join-totals-requires : goal.with_join-totals-requires
 unfolding JoinFits
 with_join-totals-requires c =
-    let fit = rw c.in-Joined.is at c.read_join-joined.ensures.1.0 in
+    let fit = rw c.in-Joined.is at c.read_join-joined.ensures.fits in
     let pre = c.requires in
     let b = c.loop-left.invariant.bounded in (
       omega (arith, b.cost, fit.0.cost, pre.4, pre.3.few),
@@ -90,8 +90,8 @@ pub loop-left-preserved : goal.loop-left-preserved
 loop-left-preserved c =
     let read = c.read_join-joined.ensures in
     recording_on _ _ _ _ _ _ _ _ _ _ c.loop-left.invariant c.loop-left-test.true (sym c.some_unjoined.ensures ∙ c.if-not-some_unjoined.false) c.read_flag-flag.ensures
-    c.in-Join.is c.requires.0 (bits_of_bits _) _ read.0 read.1.0 c.in-Joined.is
-    read.1.1.0 read.1.1.1.0 c.with_join-totals.ensures _ read.1.1.1.1
+    c.in-Join.is c.requires.0 (bits_of_bits _) _ read.answer read.fits c.in-Joined.is
+    read.spots read.map c.with_join-totals.ensures _ read.counts
 
 pub with_net-requires-2 : goal.with_net-requires-2
 with_net-requires-2 c = omega (arith, c.loop-left.invariant.joined, c.requires.4)
@@ -99,4 +99,4 @@ with_net-requires-2 c = omega (arith, c.loop-left.invariant.joined, c.requires.4
 pub returns : goal.returns
 returns c =
     let all = recording_done _ _ _ _ _ _ _ _ _ _ c.loop-left.invariant c.loop-left-test.false c.requires.3.few c.with_net-2.ensures in
-    record { answer = all.0; fits = all.1; map = all.2; counts = all.3 }
+    record { answer = all.0; fits = all.1.0; map = all.1.1.0; counts = all.1.1.1 }

@@ -11,4 +11,4 @@ read_records-requires c = c.requires
 pub returns : goal.returns
 returns c =
     let all = rw c.begin_tree.ensures at c.read_records.ensures in
-    record { answer = all.0; fits = all.1; map = all.2; counts = all.3 }
+    record { answer = all.0; fits = all.1.0; map = all.1.1.0; counts = all.1.1.1 }

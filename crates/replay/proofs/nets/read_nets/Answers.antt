@@ -29,14 +29,14 @@ see_net-requires c =
     let inv = c.loop-left.invariant in
     let some = c.loop-left-test.true in
     let loaded = c.load_net-loaded.ensures in
-    let own = pins_fit _ _ _ _ _ inv.nets some loaded.0 loaded.1.0 loaded.1.1 in (
+    let own = pins_fit _ _ _ _ _ inv.nets some loaded.counts loaded.pins loaded.boxes in (
       (
         (nets_sized _ _ _ _ inv.held).sized,
         nets_room _ _ _ _ _ inv.nets,
         own.few,
-        boxes_few _ _ _ _ _ inv.nets some loaded.0 loaded.1.0 loaded.1.1,
+        boxes_few _ _ _ _ _ inv.nets some loaded.counts loaded.pins loaded.boxes,
       ),
-      pins_below _ _ _ _ _ inv.nets some loaded.0 loaded.1.0 loaded.1.1,
+      pins_below _ _ _ _ _ inv.nets some loaded.counts loaded.pins loaded.boxes,
     )
 
 pub read_net-read-requires : goal.read_net-read-requires
@@ -47,7 +47,7 @@ read_net-read-requires c =
       inv.held.fits,
       c.fill_prices.ensures,
       nets_room _ _ _ _ _ inv.nets,
-      pins_fit _ _ _ _ _ inv.nets some loaded.0 loaded.1.0 loaded.1.1,
+      pins_fit _ _ _ _ _ inv.nets some loaded.counts loaded.pins loaded.boxes,
       omega (arith, net_below _ _ _ _ _ inv.nets some),
       bounded_next _ _ _ _ _ _ _ inv,
       inv.small,
@@ -59,7 +59,7 @@ shape_of-map-in-Refused c =
     let some = c.loop-left-test.true in
     let loaded = c.load_net-loaded.ensures in
     let read = c.read_net-read.ensures in
-    (netting_kept _ _ _ _ _ _ _ inv some loaded.0 loaded.1.0 loaded.1.1 _ c.see_net.ensures _ _ read.0 read.1.1.0 read.1.1.1).size
+    (netting_kept _ _ _ _ _ _ _ inv some loaded.counts loaded.pins loaded.boxes _ c.see_net.ensures _ _ read.answer read.map read.counts).size
 
 pub returns-in-Refused : goal.returns-in-Refused
 unfolding NetFits
@@ -69,10 +69,14 @@ returns-in-Refused c =
     let seen = c.see_net.ensures in
     let read = c.read_net-read.ensures in
     let loaded = c.load_net-loaded.ensures in
-    let both = netting_refused _ _ _ _ _ _ _ inv some loaded.0 loaded.1.0 loaded.1.1 _ seen _ _ read.0 read.1.1.0 read.1.1.1 c.in-Refused.is in
-    let kept = netting_kept _ _ _ _ _ _ _ inv some loaded.0 loaded.1.0 loaded.1.1 _ seen _ _ read.0 read.1.1.0 read.1.1.1 in
-    let all = (tt, (kept, λ j is. (both j is).1)) in
-    record { answer = λ j is. (both j is).0; fits = all.0; kept = all.1; counts = all.2 }
+    let both = netting_refused _ _ _ _ _ _ _ inv some loaded.counts loaded.pins loaded.boxes _ seen _ _ read.answer read.map read.counts c.in-Refused.is in
+    let kept = netting_kept _ _ _ _ _ _ _ inv some loaded.counts loaded.pins loaded.boxes _ seen _ _ read.answer read.map read.counts in
+    record {
+      answer = λ j is. (both j is).0;
+      fits = tt;
+      kept = kept;
+      counts = λ j is. (both j is).1;
+    }
 
 pub overflow_sub-left : goal.overflow_sub-left
 overflow_sub-left c = c.loop-left-test.true
@@ -86,8 +90,8 @@ loop-left-preserved c =
     let some = c.loop-left-test.true in
     let loaded = c.load_net-loaded.ensures in
     let read = c.read_net-read.ensures in
-    netting_on _ _ _ _ _ _ _ inv some loaded.0 loaded.1.0 loaded.1.1 _ c.see_net.ensures _ _ read.0
-    read.1.1.0 read.1.1.1 c.in-Ended.is read.1.0
+    netting_on _ _ _ _ _ _ _ inv some loaded.counts loaded.pins loaded.boxes _ c.see_net.ensures _ _ read.answer
+    read.map read.counts c.in-Ended.is read.fits
 
 pub shape_of-map : goal.shape_of-map
 shape_of-map c = (nets_kept _ _ _ _ _ c.loop-left.invariant.nets).size
@@ -96,5 +100,9 @@ pub returns : goal.returns
 returns c =
     let inv = c.loop-left.invariant in
     let both = netting_done _ _ _ _ _ _ _ inv c.loop-left-test.false in
-    let all = (fits_all _ _ _ _ _ _ _ inv, (nets_kept _ _ _ _ _ inv.nets, λ j is. (both j is).1)) in
-    record { answer = λ j is. (both j is).0; fits = all.0; kept = all.1; counts = all.2 }
+    record {
+      answer = λ j is. (both j is).0;
+      fits = fits_all _ _ _ _ _ _ _ inv;
+      kept = nets_kept _ _ _ _ _ inv.nets;
+      counts = λ j is. (both j is).1;
+    }

@@ -19,10 +19,10 @@ pub read_nets-read-requires : goal.read_nets-read-requires
 read_nets-read-requires c =
     let laid = c.lay_all_pins.ensures in
     let pre = c.requires in
-    (nets_held _ _ _ _ _ _ pre.0 (count-zeroed _ c.vertices-count.ensures c.zero_codes.ensures) laid.0 laid.1, pre.1)
+    (nets_held _ _ _ _ _ _ pre.0 (count-zeroed _ c.vertices-count.ensures c.zero_codes.ensures) laid.kept laid.codes, pre.1)
 
 pub end_plan-replayed-requires : goal.end_plan-replayed-requires
-end_plan-replayed-requires c = c.read_nets-read.ensures.1.0
+end_plan-replayed-requires c = c.read_nets-read.ensures.fits
 
 pub finish_map-requires : goal.finish_map-requires
 finish_map-requires c =
@@ -30,8 +30,8 @@ finish_map-requires c =
     let count = c.vertices-count.ensures in
     rw count (
       pre.fits.sized.vertices,
-      after_long _ _ _ _ _ _ pre (count-zeroed _ count c.zero_codes.ensures) c.lay_all_pins.ensures.0
-          c.read_nets-read.ensures.1.1.0,
+      after_long _ _ _ _ _ _ pre (count-zeroed _ count c.zero_codes.ensures) c.lay_all_pins.ensures.kept
+          c.read_nets-read.ensures.kept,
     )
 
 pub returns : goal.returns
@@ -39,12 +39,12 @@ returns c =
     let pre = c.requires.0 in
     let count = c.vertices-count.ensures in
     let zeros = count-zeroed _ count c.zero_codes.ensures in
-    let kept = c.lay_all_pins.ensures.0 in
+    let kept = c.lay_all_pins.ensures.kept in
     let read = c.read_nets-read.ensures in
     let ended = c.end_plan-replayed.ensures in
     let finished = count_finished _ _ _ count c.finish_map.ensures in
-    let all = (
-        plan_map _ _ _ _ _ _ pre zeros kept _ _ _ read.0 read.1.1.0 ended finished,
-        λ j is. plan_counted j _ _ _ (read.1.1.1 j is),
-      ) in
-    record { answer = plan_answer _ _ _ _ _ _ pre zeros kept _ _ _ read.0 read.1.1.0 ended finished; map = all.0; counts = all.1 }
+    record {
+      answer = plan_answer _ _ _ _ _ _ pre zeros kept _ _ _ read.answer read.kept ended finished;
+      map = plan_map _ _ _ _ _ _ pre zeros kept _ _ _ read.answer read.kept ended finished;
+      counts = λ j is. plan_counted j _ _ _ (read.counts j is);
+    }

@@ -10,16 +10,16 @@ pub read_job-read-requires : goal.read_job-read-requires
 read_job-read-requires c = zeros_bare
 
 pub held_of-held-requires : goal.held_of-held-requires
-held_of-held-requires c = head_holds (read_at _ _ c.read_job-read.ensures.0 _ c.in-At.is)
+held_of-held-requires c = head_holds (read_at _ _ c.read_job-read.ensures.read _ c.in-At.is)
 
 pub replay_job-requires : goal.replay_job-requires
 replay_job-requires c =
     let read = c.read_job-read.ensures in
-    (job_held (read_at _ _ read.0 _ c.in-At.is) read.1 c.held_of-held.ensures, c.requires)
+    (job_held (read_at _ _ read.read _ c.in-At.is) read.occupants c.held_of-held.ensures, c.requires)
 
 pub returns-in-Refused : goal.returns-in-Refused
 returns-in-Refused c =
-    let none = refused_room _ _ _ (read_refused _ _ c.read_job-read.ensures.0 _ _ c.in-Refused.is) in
+    let none = refused_room _ _ _ (read_refused _ _ c.read_job-read.ensures.read _ _ c.in-Refused.is) in
     (replay_refused _ _ _ _ none c.refused_replay.ensures, counts_none _ _ _ _ _ _ none)
 
 pub returns-in-At : goal.returns-in-At

@@ -30,6 +30,6 @@ returns-in-Enough c =
     let h = c.requires.0 in
     let enough = room_enough h _ _ c.room_for-room.ensures c.in-Enough.is in
     let read = c.replay_plan-replayed.ensures in record {
-      outcome = replay_read_lem _ _ _ _ enough.read (c.result_of.ensures _ (read.0 h.job h.read)) (read.1.0 h.job h.read) (rw h.work at c.zero_words.ensures);
-      counts = λ j room. read.1.1 j (room_read _ _ _ j room);
+      outcome = replay_read_lem _ _ _ _ enough.read (c.result_of.ensures _ (read.answer h.job h.read)) (read.map h.job h.read) (rw h.work at c.zero_words.ensures);
+      counts = λ j room. read.counts j (room_read _ _ _ j room);
     }

@@ -11,7 +11,7 @@ replay_counted-result-requires c = zeros_fit 48
 pub returns-then-result-ne0 : goal.returns-then-result-ne0
 returns-then-result-ne0 c =
     let all = report_parts _ _ _ _ _ (report_turned _ _ _ _ c.replay_counted-result.ensures.0 _ c.if-result-ne0.true) in
-    record { result = all.0; map = all.1; work = all.2; report = all.3; pays = all.4 }
+    record { result = all.0; map = all.1.0; work = all.1.1.0; report = all.1.1.1.0; pays = all.1.1.1.1 }
 
 pub report_counts-requires : goal.report_counts-requires
 report_counts-requires c =
@@ -22,5 +22,5 @@ pub returns : goal.returns
 returns c =
     let replayed = c.replay_counted-result.ensures in
     let added = c.report_counts.ensures in
-    let all = report_parts _ _ _ _ _ (report_taken _ _ _ _ replayed.0 _ _ c.if-result-ne0.false replayed.1 added.0 added.1) in
-    record { result = all.0; map = all.1; work = all.2; report = all.3; pays = all.4 }
+    let all = report_parts _ _ _ _ _ (report_taken _ _ _ _ replayed.0 _ _ c.if-result-ne0.false replayed.1 added.res added.report) in
+    record { result = all.0; map = all.1.0; work = all.1.1.0; report = all.1.1.1.0; pays = all.1.1.1.1 }

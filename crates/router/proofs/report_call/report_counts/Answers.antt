@@ -10,14 +10,14 @@ pub returns-in-Refused : goal.returns-in-Refused
 returns-in-Refused c =
     let added = c.add_counts-added.ensures in
     record {
-      res = added_refused _ _ added.0 c.in-Refused.is c.refused_replay.ensures;
-      report = added.1;
+      res = added_refused _ _ added.answer c.in-Refused.is c.refused_replay.ensures;
+      report = added.report;
     }
 
 pub returns-in-Whole : goal.returns-in-Whole
 returns-in-Whole c =
     let added = c.add_counts-added.ensures in
     record {
-      res = added_whole _ _ added.0 c.in-Whole.is;
-      report = added.1;
+      res = added_whole _ _ added.answer c.in-Whole.is;
+      report = added.report;
     }

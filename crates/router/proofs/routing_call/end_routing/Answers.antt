@@ -7,11 +7,17 @@ use Rattle.router.proofs.routing_call.end_routing.Goals as goal
 pub returns-then-room-bytes : goal.returns-then-room-bytes
 returns-then-room-bytes c =
     let short = c.if-room-bytes.true in
-    let all = (end_short _ _ short c.zero_codes.ensures, end_short _ _ short c.zero_bytes.ensures) in
-    record { result = end_short _ _ short c.refused_routing.ensures; map = all.0; plan = all.1 }
+    record {
+      result = end_short _ _ short c.refused_routing.ensures;
+      map = end_short _ _ short c.zero_codes.ensures;
+      plan = end_short _ _ short c.zero_bytes.ensures;
+    }
 
 pub returns : goal.returns
 unfolding total_result
 returns c = let enough = c.if-room-bytes.false in
-    let all = (end_enough _ _ enough, end_enough _ _ enough) in
-    record { result = end_enough _ _ enough; map = all.0; plan = all.1 }
+    record {
+      result = end_enough _ _ enough;
+      map = end_enough _ _ enough;
+      plan = end_enough _ _ enough;
+    }

@@ -18,7 +18,7 @@ route_plan-routed-requires c =
     route_asked h _ _ (room_enough h _ _ c.room_for-room.ensures c.in-Enough.is) c.zero_words.ensures
 
 pub overflow_add-routed : goal.overflow_add-routed
-overflow_add-routed c = omega (arith, c.route_plan-routed.ensures.1.0)
+overflow_add-routed c = omega (arith, c.route_plan-routed.ensures.fits)
 
 pub end_routing-requires : goal.end_routing-requires
 end_routing-requires c =
@@ -35,6 +35,6 @@ returns-in-Enough c =
     let enough = room_enough h _ _ c.room_for-room.ensures c.in-Enough.is in
     let routed = c.route_plan-routed.ensures in
     let ended = c.end_routing.ensures in
-    route_ended _ _ _ _ h.job enough.read (bytes_below _ c.type_inv.plan) _ _ _ _ _ h.vertices (routed.0 h.job h.read)
-    (routed.1.1.0 h.job h.read) (routed.1.1.1.0 h.job h.read) (routed.1.1.1.1 ∙ rw h.work at c.zero_words.ensures)
-    ended.0 ended.1.0 ended.1.1
+    route_ended _ _ _ _ h.job enough.read (bytes_below _ c.type_inv.plan) _ _ _ _ _ h.vertices (routed.answer h.job h.read)
+    (routed.map h.job h.read) (routed.plan h.job h.read) (routed.work ∙ rw h.work at c.zero_words.ensures)
+    ended.result ended.map ended.plan

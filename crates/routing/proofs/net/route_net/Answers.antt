@@ -23,4 +23,4 @@ route_records-requires c =
 pub returns : goal.returns
 returns c =
     let all = rw c.begin_tree.ensures at c.route_records.ensures in
-    record { answer = all.0; fits = all.1; work = all.2 }
+    record { answer = all.0; fits = all.1.0; work = all.1.1 }

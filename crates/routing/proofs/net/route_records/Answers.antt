@@ -29,8 +29,11 @@ pub returns-then-not-some_unjoined : goal.returns-then-not-some_unjoined
 returns-then-not-some_unjoined c =
     let inv = c.loop-left.invariant in
     let (answer, fits) = recording_joined _ _ _ _ _ _ _ _ _ inv.0 c.requires.4.there.few (sym c.some_unjoined.ensures ∙ c.if-not-some_unjoined.true) c.with_net.ensures in
-    let all = (fits, inv.1) in
-    record { answer = answer; fits = all.0; work = all.1 }
+    record {
+      answer = answer;
+      fits = fits;
+      work = inv.1;
+    }
 
 pub next_join-joined-requires : goal.next_join-joined-requires
 next_join-joined-requires c =
@@ -50,7 +53,7 @@ overflow_add-result c =
     omega (arith, c.loop-left.invariant.0.bounded.reach, pre.5, pre.4.there.few)
 
 pub shape_of-work-in-None : goal.shape_of-work-in-None
-shape_of-work-in-None c = ap (λ (l : List ℕ). length l) (c.next_join-joined.ensures.1.1.1 ∙ c.loop-left.invariant.1)
+shape_of-work-in-None c = ap (λ (l : List ℕ). length l) (c.next_join-joined.ensures.work ∙ c.loop-left.invariant.1)
 
 pub returns-in-None : goal.returns-in-None
 unfolding tech_by
@@ -60,13 +63,16 @@ returns-in-None c =
     let (written, (fits, (fewer, work))) = c.next_join-joined.ensures in
     let (routed, small) = recording_none _ _ _ _ _ _ _ _ _ inv.0 c.requires.4.there.few c.loop-left-test.true some _ _ _ _
     written c.in-None.is in
-    let all = (small, work ∙ inv.1) in
-    record { answer = routed; fits = all.0; work = all.1 }
+    record {
+      answer = routed;
+      fits = small;
+      work = work ∙ inv.1;
+    }
 
 pub with_join-totals-requires : goal.with_join-totals-requires
 unfolding JoinedFits
 with_join-totals-requires c =
-    let fit = rw c.in-Join.is at c.next_join-joined.ensures.1.0 in
+    let fit = rw c.in-Join.is at c.next_join-joined.ensures.fits in
     let b = c.loop-left.invariant.0.bounded in
     let pre = c.requires in (
       omega (arith, b.cost, fit.0.cost, pre.5, pre.4.there.few),
@@ -100,5 +106,8 @@ pub returns : goal.returns
 returns c =
     let inv = c.loop-left.invariant in
     let (answer, fits) = recording_done _ _ _ _ _ _ _ _ _ inv.0 c.requires.4.there.few c.loop-left-test.false c.with_net-2.ensures in
-    let all = (fits, inv.1) in
-    record { answer = answer; fits = all.0; work = all.1 }
+    record {
+      answer = answer;
+      fits = fits;
+      work = inv.1;
+    }

@@ -30,14 +30,14 @@ see_net-requires c =
     let inv = c.loop-left.invariant.0 in
     let some = c.loop-left-test.true in
     let loaded = c.load_net-loaded.ensures in
-    let own = pins_fit _ _ _ _ _ inv.nets some loaded.0 loaded.1.0 loaded.1.1 in (
+    let own = pins_fit _ _ _ _ _ inv.nets some loaded.counts loaded.pins loaded.boxes in (
       (
         (nets_sized _ _ _ _ inv.held).sized,
         nets_room _ _ _ _ _ inv.nets,
         own.few,
-        boxes_few _ _ _ _ _ inv.nets some loaded.0 loaded.1.0 loaded.1.1,
+        boxes_few _ _ _ _ _ inv.nets some loaded.counts loaded.pins loaded.boxes,
       ),
-      pins_below _ _ _ _ _ inv.nets some loaded.0 loaded.1.0 loaded.1.1,
+      pins_below _ _ _ _ _ inv.nets some loaded.counts loaded.pins loaded.boxes,
     )
 
 pub route_net-routed-requires : goal.route_net-routed-requires
@@ -51,10 +51,10 @@ route_net-routed-requires c =
       c.fill_prices.ensures,
       rw inv.1 pre.1,
       nets_room _ _ _ _ _ inv.0.nets,
-      pins_fit _ _ _ _ _ inv.0.nets some loaded.0 loaded.1.0 loaded.1.1,
+      pins_fit _ _ _ _ _ inv.0.nets some loaded.counts loaded.pins loaded.boxes,
       omega (arith, net_below _ _ _ _ _ inv.0.nets some),
       bounded_next _ _ _ _ _ inv.0,
-      pins_below _ _ _ _ _ inv.0.nets some loaded.0 loaded.1.0 loaded.1.1,
+      pins_below _ _ _ _ _ inv.0.nets some loaded.counts loaded.pins loaded.boxes,
     )
 
 pub overflow_sub-left : goal.overflow_sub-left
@@ -68,7 +68,7 @@ loop-left-preserved c =
     let inv = c.loop-left.invariant in
     let loaded = c.load_net-loaded.ensures in
     let (answer, (fits, work)) = c.route_net-routed.ensures in (
-      netting_on _ _ _ _ _ inv.0 c.loop-left-test.true loaded.0 loaded.1.0 loaded.1.1 _ c.see_net.ensures _ answer fits c.plan-1.given,
+      netting_on _ _ _ _ _ inv.0 c.loop-left-test.true loaded.counts loaded.pins loaded.boxes _ c.see_net.ensures _ answer fits c.plan-1.given,
       work ∙ inv.1,
     )
 
@@ -84,5 +84,8 @@ shape_of-plan c = c.loop-left.invariant.0.long
 pub returns : goal.returns
 returns c =
     let inv = c.loop-left.invariant in
-    let all = (fits_all _ _ _ _ _ inv.0, inv.1) in
-    record { answer = netting_done _ _ _ _ _ inv.0 c.loop-left-test.false; fits = all.0; work = all.1 }
+    record {
+      answer = netting_done _ _ _ _ _ inv.0 c.loop-left-test.false;
+      fits = fits_all _ _ _ _ _ inv.0;
+      work = inv.1;
+    }

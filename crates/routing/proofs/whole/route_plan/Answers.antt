@@ -19,7 +19,7 @@ pub route_nets-routed-requires : goal.route_nets-routed-requires
 route_nets-routed-requires c =
     let laid = c.lay_all_pins.ensures in
     let pre = c.requires in (
-      nets_held _ _ _ _ _ _ pre.0 (count-zeroed _ c.vertices-count.ensures c.zero_codes.ensures) laid.0 laid.1,
+      nets_held _ _ _ _ _ _ pre.0 (count-zeroed _ c.vertices-count.ensures c.zero_codes.ensures) laid.kept laid.codes,
       pre.1,
     )
 
@@ -29,7 +29,7 @@ put_obstacles-requires c =
     let count = c.vertices-count.ensures in
     rw count (
       pre.0.fits.sized.vertices,
-      routed_long _ _ _ _ _ _ pre.0 (count-zeroed _ count c.zero_codes.ensures) c.lay_all_pins.ensures.0 _ _ c.route_nets-routed.ensures.0,
+      routed_long _ _ _ _ _ _ pre.0 (count-zeroed _ count c.zero_codes.ensures) c.lay_all_pins.ensures.kept _ _ c.route_nets-routed.ensures.answer,
     )
 
 pub returns : goal.returns
@@ -37,13 +37,12 @@ returns c =
     let held = c.requires.0 in
     let count = c.vertices-count.ensures in
     let zeros = count-zeroed _ count c.zero_codes.ensures in
-    let kept = c.lay_all_pins.ensures.0 in
+    let kept = c.lay_all_pins.ensures.kept in
     let (routed, (fits, work)) = c.route_nets-routed.ensures in
-    let all = (
-        fits.reach,
-        (
-          routed-map _ _ _ _ _ _ held zeros kept _ _ routed count c.put_obstacles.ensures,
-          (routed_plan _ _ _ _ _ _ held zeros kept _ _ routed, work),
-        ),
-      ) in
-    record { answer = routed_answer _ _ _ _ _ _ held zeros kept _ _ routed; fits = all.0; map = all.1; plan = all.2; work = all.3 }
+    record {
+      answer = routed_answer _ _ _ _ _ _ held zeros kept _ _ routed;
+      fits = fits.reach;
+      map = routed-map _ _ _ _ _ _ held zeros kept _ _ routed count c.put_obstacles.ensures;
+      plan = routed_plan _ _ _ _ _ _ held zeros kept _ _ routed;
+      work = work;
+    }

@@ -64,7 +64,7 @@ loop-number-preserved c =
     let inv = c.loop-number.invariant in
     let now = trying_now _ _ _ _ _ _ _ _ _ _ inv.0 in
     let on = item_good pre.0 now.known _ placed in
-    (trying_on _ _ _ _ _ _ _ _ _ _ inv.0 pre.0.good pre.2 c.loop-number-test.true on (item_code pre.0 now.known _ placed) (vertex_here pre.0 _ on) reached.0, reached.1)
+    (trying_on _ _ _ _ _ _ _ _ _ _ inv.0 pre.0.good pre.2 c.loop-number-test.true on (item_code pre.0 now.known _ placed) (vertex_here pre.0 _ on) reached.reached, reached.owed)
 
 pub returns : goal.returns
 returns c =

@@ -18,9 +18,12 @@ pub loop-number-smaller : goal.loop-number-smaller
 loop-number-smaller c = omega (arith, c.loop-number-test.true)
 
 pub loop-number-preserved : goal.loop-number-preserved
-loop-number-preserved c = let lit = c.light_one.ensures in lighting_on _ _ _ c.loop-number.invariant c.loop-number-test.true lit.0 lit.1.0 lit.1.1
+loop-number-preserved c = let lit = c.light_one.ensures in lighting_on _ _ _ c.loop-number.invariant c.loop-number-test.true lit.lit lit.stays lit.long
 
 pub returns : goal.returns
 returns c = let inv = c.loop-number.invariant in
-    let all = (inv.stays, inv.bytes) in
-    record { lit = lighting_done _ _ _ inv c.loop-number-test.false; stays = all.0; long = all.1 }
+    record {
+      lit = lighting_done _ _ _ inv c.loop-number-test.false;
+      stays = inv.stays;
+      long = inv.bytes;
+    }

@@ -10,8 +10,11 @@ entered_by-requires c = let pre = c.requires in (record { small = pre.0.small; t
 pub returns-in_default : goal.returns-in_default
 returns-in_default c =
     let pre = c.requires in
-    let all = (λ u m on. on, pre.3) in
-    record { lit = λ u e. absurd (none_entered _ pre.0 pre.1 c.entered_by.ensures c.in_default.is u e); stays = all.0; long = all.1 }
+    record {
+      lit = λ u e. absurd (none_entered _ pre.0 pre.1 c.entered_by.ensures c.in_default.is u e);
+      stays = λ u m on. on;
+      long = pre.3;
+    }
 
 pub bounds-near-u : goal.bounds-near-u
 bounds-near-u c =
@@ -38,4 +41,4 @@ returns c =
     let into = c.in-At.is in
     let all = rw c.with_move.ensures
     (one_lit _ pre.0 pre.1 entered into near pre.3 _, (lit_stays _ pre.0 pre.1 entered into near pre.3 _, lit_long _ pre.0 pre.1 entered into near pre.3 _)) in
-    record { lit = all.0; stays = all.1; long = all.2 }
+    record { lit = all.0; stays = all.1.0; long = all.1.1 }

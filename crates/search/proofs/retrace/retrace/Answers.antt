@@ -87,5 +87,9 @@ returns c =
     let found = searched_by pre.0.good pre.4 pre.3.1 in
     let inv = c.loop-left.invariant in
     let all = c.loop-left-test.false in
-    let all = (retracing_lowest found inv all, (inv.laid, retracing_kept found inv all)) in
-    record { charted = retracing_charted found inv all pre.2; start = all.0; laid = all.1; kept = all.2 }
+    record {
+      charted = retracing_charted found inv all pre.2;
+      start = retracing_lowest found inv all;
+      laid = inv.laid;
+      kept = retracing_kept found inv all;
+    }

@@ -89,6 +89,6 @@ returns c =
     let few : c.lowest_among-lead.result < 4 = omega (arith, c.if-lead-ge4.false) in
     let same = led_cost (tech_by args.tech) args.bounds.now args.work.now _ (omega (arith, pre.2, pre.3)) few c.put_lead.ensures in
     let lit = c.light.ensures in
-    answered_led (asked_led few lowest c.put_lead.ensures (rw vertex at lit.0) lit.1.0 lit.1.1)
-    (λ other. c.lower_start.ensures.0 (λ none. other (omega (arith, same, cost, none, pre.5))))
-    (λ none. rw vertex at (c.lower_start.ensures.1 (omega (arith, same, cost, none))))
+    answered_led (asked_led few lowest c.put_lead.ensures (rw vertex at lit.lit) lit.stays lit.long)
+    (λ other. c.lower_start.ensures.other (λ none. other (omega (arith, same, cost, none, pre.5))))
+    (λ none. rw vertex at (c.lower_start.ensures.lower (omega (arith, same, cost, none))))

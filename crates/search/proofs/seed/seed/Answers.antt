@@ -39,4 +39,4 @@ pub returns : goal.returns
 unfolding tech_by
 returns c =
     let all = seeding_done _ _ _ _ c.loop-from.invariant.0 (omega (arith, c.loop-from-test.false, c.vertices-count.ensures)) in
-    record { laid = all.0; seeded = all.1; kept = all.2 }
+    record { laid = all.0; seeded = all.1.0; kept = all.1.1 }

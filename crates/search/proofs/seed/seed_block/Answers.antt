@@ -37,7 +37,7 @@ unfolding tech_by
 loop-vertex-preserved c =
     let pre = c.requires in
     let seeded = c.seed_vertex-size.ensures in
-    blocked_on _ _ _ _ _ _ _ c.loop-vertex.invariant c.loop-vertex-test.true pre.4 pre.0.good seeded.0 seeded.1
+    blocked_on _ _ _ _ _ _ _ c.loop-vertex.invariant c.loop-vertex-test.true pre.4 pre.0.good seeded.off seeded.on
 
 pub shape_of-work : goal.shape_of-work
 shape_of-work c = blocked_long _ _ _ _ _ _ _ c.loop-vertex.invariant

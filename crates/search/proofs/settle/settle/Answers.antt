@@ -21,7 +21,7 @@ unfolding tech_by
 loop-front-init c =
     let pre = c.requires in
     let seeded = c.seed.ensures in
-    (between-begun _ _ _ pre.0.good seeded.0 seeded.1.0 pre.2, beyond_refl _ _)
+    (between-begun _ _ _ pre.0.good seeded.laid seeded.seeded pre.2, beyond_refl _ _)
 
 pub key_at-top-requires : goal.key_at-top-requires
 key_at-top-requires c = least_asked c.places-n.ensures c.loop-front.invariant.0 c.loop-front-test.true
@@ -40,7 +40,7 @@ returns-then-front-top c =
     let one = least_some counted inv.0 c.loop-front-test.true key in
     record {
       found = ended_best _ _ _ c.requires.0.good inv.0 counted one key c.if-front-top.true;
-      kept = beyond_trans inv.1 c.seed.ensures.1.1;
+      kept = beyond_trans inv.1 c.seed.ensures.kept;
     }
 
 pub settle_next-item-requires : goal.settle_next-item-requires
@@ -78,12 +78,12 @@ loop-front-preserved c =
     let inv = c.loop-front.invariant in
     let (distance, top, turn) = removed_turn counted inv.0 some removed fine c.key_at-top.ensures in
     let kept = removed_kept counted inv.0 some removed in
-    (between_on _ _ _ fine (reached.0 _ distance top turn), beyond_trans reached.1 (beyond_trans (rw counted at kept) inv.1))
+    (between_on _ _ _ fine (reached.turned _ distance top turn), beyond_trans reached.kept (beyond_trans (rw counted at kept) inv.1))
 
 pub returns : goal.returns
 returns c =
     let inv = c.loop-front.invariant in
     record {
       found = ended_none _ _ _ c.requires.0.good inv.0 c.loop-front-test.false;
-      kept = beyond_trans inv.1 c.seed.ensures.1.1;
+      kept = beyond_trans inv.1 c.seed.ensures.kept;
     }

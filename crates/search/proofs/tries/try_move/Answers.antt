@@ -23,4 +23,4 @@ try_along-requires c =
 pub returns : goal.returns
 returns c =
     let pre = c.requires in
-    attempt_told _ _ _ c.try_along.ensures.0 (rw c.try_along.ensures.1 pre.4)
+    attempt_told _ _ _ c.try_along.ensures.tried (rw c.try_along.ensures.owed pre.4)

@@ -39,7 +39,7 @@ unfolding tech_by
 to_fresh-requires c =
     let pre = c.requires in
     let (enters, price) = entry_parts _ _ _ _ (sym (c.entry_of.ensures _ (settled_here pre.0 pre.1) refl) ∙ c.in-Open.is) in
-    (omega (arith, (entering_fits _ _ pre.0.fits.good pre.0.good.vertex enters price).1), c.ask_owed.ensures.1)
+    (omega (arith, (entering_fits _ _ pre.0.fits.good pre.0.good.vertex enters price).1), c.ask_owed.ensures.small)
 
 pub returns : goal.returns
 unfolding OwedFor
@@ -47,5 +47,5 @@ returns c =
     let pre = c.requires in
     let opens = sym (c.entry_of.ensures _ (settled_here pre.0 pre.1) refl) ∙ c.in-Open.is in
     attempt_told _ _ _
-    (c.to_fresh.ensures.0 ∙ rw c.ask_owed.ensures.0 (priced_via _ _ _ _ opens pre.5))
-    (rw c.to_fresh.ensures.1 (λ asked. c.ask_owed.ensures.0))
+    (c.to_fresh.ensures.tried ∙ rw c.ask_owed.ensures.told (priced_via _ _ _ _ opens pre.5))
+    (rw c.to_fresh.ensures.owed (λ asked. c.ask_owed.ensures.told))
