@@ -11,7 +11,6 @@ use mathlib.Core.Path.{◌≡◌, refl, sym, ap, ◌∙◌}
 use mathlib.Core.Bool.{Bool, true, false}
 use mathlib.Core.Logic.{◌⊎◌, inl, inr}
 use native.Mathlib.Omega.{arith}
-use denote.Enum.Declared.{tag_of}
 use Rattle.job.specs.Structs.{layer_struct}
 use Rattle.job.specs.declared.groups.Layer.{Layer as LayerStruct}
 use Rattle.paths.specs.Systems.{blocked, to}
@@ -25,19 +24,18 @@ use Rattle.rules.specs.Steps.{Stepped, illegal, leaving, stepping, by_segment, i
 use Rattle.rules.specs.Structs.{kind_by, Via, overhead_by, IsOverhead, overhead_cost, overhead_price, owed_cost, by_owed, entry_by, entry_at, entry_of}
 use Rattle.rules.specs.declared.overhead.Overhead.{Overhead as OverheadEnum}
 use Rattle.rules.specs.declared.overhead.Overhead.TheVariants.{Nothing, Lengthened, Penalised, Forbidden}
+use Rattle.rules.specs.declared.segment.Direction.{Direction as DirectionEnum}
 use Rattle.rules.specs.declared.track.Kind.{Kind as KindEnum}
 use Rattle.rules.specs.declared.track.Kind.TheVariants.{Along, Down, Up}
-use Rattle.rules.specs.contracts.track.Kind.{the_type}
 use Rattle.rules.specs.declared.step.Entry.{Entry}
 use Rattle.rules.specs.declared.step.Entry.TheVariants.{Shut, Open}
 
 -- a move that does not go along the track is a via
-pub via_told : (k : KindEnum) → (tag_of the_type k ≡ 1) ⊎ (tag_of the_type k ≡ 2) → Via (kind_by k)
+pub via_told : (k : KindEnum) → ((d : DirectionEnum) → k ≡ Along d → ⊥) → Via (kind_by k)
 unfolding Via kind_by
-via_told (Along d) (inl e) = let z : ◌≡◌ {A = ℕ} 0 1 = e in omega (arith, z)
-via_told (Along d) (inr e) = let z : ◌≡◌ {A = ℕ} 0 2 = e in omega (arith, z)
-via_told Down e = tt
-via_told Up e = tt
+via_told (Along d) other = absurd (other d refl)
+via_told Down other = tt
+via_told Up other = tt
 
 -- a via leaves the segment
 pub via_leaves : (t : Tech) (view : View) (p : Place) (k : Kind) (w enter : ℕ) → Via k

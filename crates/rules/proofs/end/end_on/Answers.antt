@@ -1,5 +1,6 @@
 -- `rules::end::end_on` meets its contract.
 -- every end but the first is the starting end
+use native.Mathlib.Omega.{arith}
 use Prim.Native.Nat.{ℕ, zero, suc}
 use mathlib.Core.Path.{◌≡◌, refl, sym, ◌∙◌}
 use borrow.Author.Rules.{rules}
@@ -22,4 +23,4 @@ unfolding end_on
 returns-in-0 c = rw (c.in-0.is, c.room_toward.ensures) refl
 
 pub returns-in_default : goal.returns-in_default
-returns-in_default c = c.starting_end.ensures ∙ sym (later_end _ _ _ _ _ c.in_default.in_default-own.rest.1)
+returns-in_default c = c.starting_end.ensures ∙ sym (later_end _ _ _ _ c.args.which (omega arith))

@@ -14,7 +14,7 @@ leave_layer-requires c = c.requires.0
 
 pub returns-in_default : goal.returns-in_default
 returns-in_default c tech here same =
-    rw (via_leaves _ _ _ _ _ _ (via_told _ c.in_default.in_default-own.keys2)) (c.leave_layer.ensures tech here same)
+    rw (via_leaves _ _ _ _ _ _ (via_told _ c.in_default.not-Along)) (c.leave_layer.ensures tech here same)
 
 pub line_at-line-requires : goal.line_at-line-requires
 line_at-line-requires c = layer_known c.requires.0.1

@@ -66,6 +66,5 @@ returns-in-3 c =
 pub returns-in_default : goal.returns-in_default
 unfolding entered_of
 returns-in_default c =
-    let ((((none, not0), not1), not2), not3) = c.in_default.in_default-own.rest in
     let args = c.args in
-    rw (enters_none (grid_of args.grid) args.v args.number not0 not1 not2 not3) refl
+    rw (enters_none (grid_of args.grid) args.v args.number (omega arith) (omega arith) (omega arith) (omega arith)) refl

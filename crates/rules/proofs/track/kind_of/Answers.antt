@@ -1,5 +1,6 @@
 -- `rules::track::kind_of` meets its contract.
 -- every number past 2 goes up
+use native.Mathlib.Omega.{arith}
 use Prim.Native.Nat.{ℕ, zero, suc}
 use mathlib.Core.Path.{◌≡◌, refl, sym}
 use Rattle.rules.specs.Segments.{up, kind_of}
@@ -27,4 +28,4 @@ returns-in-2 c = rw c.in-2.is refl
 
 pub returns-in_default : goal.returns-in_default
 unfolding kind_by
-returns-in_default c = let (((none, not0), not1), not2) = c.in_default.in_default-own.rest in sym (later_up _ not0 not1 not2)
+returns-in_default c = sym (later_up c.args.number (omega arith) (omega arith) (omega arith))

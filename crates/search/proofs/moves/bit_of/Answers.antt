@@ -1,4 +1,5 @@
 -- `search::moves::bit_of` meets its contract.
+use native.Mathlib.Omega.{arith}
 use mathlib.Core.Path.{refl, sym}
 use Rattle.search.specs.Bits.{bit_of}
 use Rattle.search.proofs.Bits.{last_bit}
@@ -17,4 +18,4 @@ unfolding bit_of
 returns-in-2 c = rw c.in-2.is refl
 
 pub returns-in_default : goal.returns-in_default
-returns-in_default c = let (((none, not0), not1), not2) = c.in_default.in_default-own.rest in sym (last_bit _ not0 not1 not2)
+returns-in_default c = sym (last_bit c.args.number (omega arith) (omega arith) (omega arith))

@@ -9,7 +9,7 @@ use Rattle.search.proofs.tries.try_move.Goals as goal
 pub try_via-requires : goal.try_via-requires
 try_via-requires c =
     let pre = c.requires in
-    (pre.0, pre.1, pre.2, pre.3, pre.4, subst Via c.kind_of.ensures (via_told _ c.in_default.in_default-own.keys2))
+    (pre.0, pre.1, pre.2, pre.3, pre.4, subst Via c.kind_of.ensures (via_told _ c.in_default.not-Along))
 
 pub returns-in_default : goal.returns-in_default
 returns-in_default c = c.try_via.ensures
