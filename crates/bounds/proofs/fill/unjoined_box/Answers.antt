@@ -1,7 +1,6 @@
 -- `bounds::fill::unjoined_box` meets its contract.
 use Prim.Native.Nat.{◌-◌, ◌≤◌}
 use mathlib.Core.Path.{◌≡◌, refl}
-use mathlib.Core.Logic.{⊎_elim}
 use native.Mathlib.Omega.{arith}
 use borrow.Author.Rules.{rules}
 use Rattle.job.specs.Structs.{grid_of}
@@ -9,6 +8,7 @@ use Rattle.tree.proofs.Turns.{pin_vertex}
 use Rattle.bounds.specs.Fills.{unjoined_box}
 use Rattle.bounds.proofs.Boxes.{pin_on_grid, box_turn, box_kept}
 use Rattle.bounds.proofs.fill.unjoined_box.Goals as goal
+use Rattle.bounds.proofs.fill.unjoined_box.Goals.{then-spots-pin-eq-UNJOINED, else-spots-pin-eq-UNJOINED}
 
 pub loop-i-init : goal.loop-i-init
 unfolding unjoined_box
@@ -39,7 +39,13 @@ loop-i-preserved c =
     let i = loop.i in
     let so_far = loop.invariant.1 in
     let on = c.loop-i-test.true in
-    (omega (arith, on), ⊎_elim (λ w. rw w.3 (box_turn _ _ _ i refl so_far w.0.taken w.1.ensures w.2.ensures)) (λ w. rw w.1 (box_kept _ _ _ i refl so_far w.0.left)) c.if-spots-pin-eq-UNJOINED.branch)
+    (
+      omega (arith, on),
+      elim c.if-spots-pin-eq-UNJOINED.branch [
+          then-spots-pin-eq-UNJOINED w ↦ rw w.around-is (box_turn _ _ _ i refl so_far w.if-spots-pin-eq-UNJOINED.true w.vertex_by.ensures w.widened_box-around.ensures)
+        | else-spots-pin-eq-UNJOINED w ↦ rw w.around-is (box_kept _ _ _ i refl so_far w.if-spots-pin-eq-UNJOINED.false)
+      ],
+    )
 
 pub returns : goal.returns
 returns c =

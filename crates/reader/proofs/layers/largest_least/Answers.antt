@@ -1,12 +1,12 @@
 -- `reader::layers::largest_least` meets its contract.
 use Prim.Native.Nat.{◌-◌, ◌<◌, ◌≤◌, max}
 use mathlib.Core.Path.{◌≡◌, sym, ◌∙◌}
-use mathlib.Core.Logic.{⊎_elim}
 use native.Mathlib.Omega.{arith}
 use lib.ListN.{length, drop}
 use Rattle.reader.specs.Structs.{largest_in}
 use Rattle.reader.proofs.Lines.{largest_turn, largest_done}
 use Rattle.reader.proofs.layers.largest_least.Goals as goal
+use Rattle.reader.proofs.layers.largest_least.Goals.{then-largest-least, else-largest-least}
 
 pub loop-layer-init : goal.loop-layer-init
 loop-layer-init c = omega arith
@@ -35,7 +35,10 @@ loop-layer-preserved c =
     let here = c.loop-layer in
     let more : here.layer < length least = omega (arith, c.requires, c.loop-layer-test.true) in
     let turn = largest_turn least here.layer here.largest more in
-    ⊎_elim (λ w. omega (arith, turn, here.invariant, w.0.taken, w.1)) (λ w. omega (arith, turn, here.invariant, w.0.left, w.1)) c.if-largest-least.branch
+    elim c.if-largest-least.branch [
+        then-largest-least w ↦ omega (arith, turn, here.invariant, w.if-largest-least.true, w.largest-is)
+      | else-largest-least w ↦ omega (arith, turn, here.invariant, w.if-largest-least.false, w.largest-is)
+    ]
 
 pub returns : goal.returns
 returns c =

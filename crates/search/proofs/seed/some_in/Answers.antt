@@ -3,6 +3,7 @@ use Prim.Native.Nat.{◌-◌}
 use native.Mathlib.Omega.{arith}
 use Rattle.search.proofs.Seeding.{Flagged, flagged_begun, flagged_on, flagged_none}
 use Rattle.search.proofs.seed.some_in.Goals as goal
+use Rattle.search.proofs.seed.some_in.Goals.{then-spots-from-ne0, else-spots-from-ne0}
 
 pub loop-i-init : goal.loop-i-init
 loop-i-init c = flagged_begun _ _
@@ -20,7 +21,11 @@ pub loop-i-smaller : goal.loop-i-smaller
 loop-i-smaller c = omega (arith, c.loop-i-test.true)
 
 pub loop-i-preserved : goal.loop-i-preserved
-loop-i-preserved c = flagged_on c.loop-i.invariant c.loop-i-test.true c.if-spots-from-ne0.branch (λ stays. stays.left)
+loop-i-preserved c = 
+    elim c.if-spots-from-ne0.branch [
+        then-spots-from-ne0 w ↦ flagged_on c.loop-i.invariant c.loop-i-test.true (inl (w.if-spots-from-ne0.true, w.flag-is)) (λ stays. absurd (w.if-spots-from-ne0.true stays))
+      | else-spots-from-ne0 w ↦ flagged_on c.loop-i.invariant c.loop-i-test.true (inr (w.if-spots-from-ne0.false, w.flag-is)) (λ stays. stays)
+    ]
 
 pub returns : goal.returns
 returns c = flagged_none c.loop-i.invariant c.loop-i-test.false

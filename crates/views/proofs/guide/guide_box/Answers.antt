@@ -1,7 +1,6 @@
 -- `views::guide::guide_box` meets its contract.
 use Prim.Native.Nat.{◌-◌}
 use mathlib.Core.Path.{sym, ◌∙◌}
-use mathlib.Core.Logic.{⊎_elim}
 use native.Mathlib.Omega.{arith}
 use Rattle.job.specs.Structs.{grid_of, box_of}
 use Rattle.rules.specs.Views.{in_box}
@@ -10,6 +9,7 @@ use Rattle.views.specs.Sight.{in_layer}
 use Rattle.views.proofs.Axes.{FoundTo, found_begin, found_turn, found_none, found_end}
 use Rattle.views.proofs.Rows.{layer_outside}
 use Rattle.views.proofs.guide.guide_box.Goals as goal
+use Rattle.views.proofs.guide.guide_box.Goals.{then-on_layers, else-on_layers}
 
 pub loop-layer-init : goal.loop-layer-init
 loop-layer-init c = found_begin _ _ _ _
@@ -36,10 +36,10 @@ unfolding in_layer
 loop-layer-preserved c =
     let so_far = c.loop-layer.invariant in
     let asked = c.on_layers.ensures in
-    ⊎_elim
-    (λ w. rw w.5 (found_turn _ _ _ so_far w.3.given w.2.ensures))
-    (λ w. rw w.1 (found_none _ _ _ so_far (layer_outside _ _ (sym asked ∙ w.0.left))))
-    c.if-on_layers.branch
+    elim c.if-on_layers.branch [
+        then-on_layers w ↦ rw w.seen-is (found_turn _ _ _ so_far w.guide_layer.auto.seen w.guide_layer.ensures)
+      | else-on_layers w ↦ rw w.seen-is (found_none _ _ _ so_far (layer_outside _ _ (sym asked ∙ w.if-on_layers.false)))
+    ]
 
 pub shape_of-seen : goal.shape_of-seen
 shape_of-seen c = c.loop-layer.invariant.size

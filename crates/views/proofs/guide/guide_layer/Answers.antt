@@ -1,7 +1,6 @@
 -- `views::guide::guide_layer` meets its contract.
 use Prim.Native.Nat.{◌-◌}
 use mathlib.Core.Path.{sym, ◌∙◌}
-use mathlib.Core.Logic.{⊎_elim}
 use native.Mathlib.Omega.{arith}
 use Rattle.job.specs.Structs.{grid_of, box_of}
 use Rattle.rules.proofs.Vertices.{vertex_below}
@@ -9,6 +8,7 @@ use Rattle.views.specs.Sight.{in_row, in_layer}
 use Rattle.views.proofs.Axes.{FoundTo, found_begin, found_turn, found_none, found_end}
 use Rattle.views.proofs.Rows.{row_outside}
 use Rattle.views.proofs.guide.guide_layer.Goals as goal
+use Rattle.views.proofs.guide.guide_layer.Goals.{then-on_rows, else-on_rows}
 
 pub loop-row-init : goal.loop-row-init
 loop-row-init c = found_begin _ _ _ _
@@ -35,10 +35,10 @@ unfolding in_row
 loop-row-preserved c =
     let so_far = c.loop-row.invariant in
     let asked = c.on_rows.ensures in
-    ⊎_elim
-    (λ w. rw w.5 (found_turn _ _ _ so_far w.3.given w.2.ensures))
-    (λ w. rw w.1 (found_none _ _ _ so_far (row_outside _ _ _ (sym asked ∙ w.0.left))))
-    c.if-on_rows.branch
+    elim c.if-on_rows.branch [
+        then-on_rows w ↦ rw w.seen-is (found_turn _ _ _ so_far w.guide_row.auto.seen w.guide_row.ensures)
+      | else-on_rows w ↦ rw w.seen-is (found_none _ _ _ so_far (row_outside _ _ _ (sym asked ∙ w.if-on_rows.false)))
+    ]
 
 pub shape_of-seen : goal.shape_of-seen
 shape_of-seen c = c.loop-row.invariant.size
