@@ -12,8 +12,7 @@ net_group-requires c = omega (arith, net_head_there c.args.s.now c.args.at c.req
 
 pub returns-in_default : goal.returns-in_default
 returns-in_default c =
-    let all = absurd (net_uncut c.args.s.now c.args.at c.requires.2 c.net_group.ensures c.in_default.is) in
-    record { counts = all.0; pins = all.1.0; boxes = all.1.1 }
+    absurd (net_uncut c.args.s.now c.args.at c.requires.2 c.net_group.ensures c.in_default.is)
 
 pub overflow_add-boxes_at : goal.overflow_add-boxes_at
 overflow_add-boxes_at c =

@@ -10,7 +10,7 @@ pub returns-in-At-groups : goal.returns-in-At-groups
 returns-in-At-groups c =
     let p = c.requires in
     let read = c.read_groups-groups.ensures in
-    let told = rest_good_job _ _ c.read_layers-lines.ensures _ _ c.in-At.is p.0.1.vertices (bare_occupants _ p.1) _ (sym read.answer ∙ c.in-At-groups.is) in
+    let told = rest_good_job _ _ c.read_layers-lines.ensures _ _ c.in-At.is p.s_len_bound.1.vertices (bare_occupants _ p.bare) _ (sym read.answer ∙ c.in-At-groups.is) in
     let all = rw read.occupants told in
     record { read = all.0; occupants = all.1 }
 
@@ -18,7 +18,7 @@ pub returns-in-Refused-groups : goal.returns-in-Refused-groups
 returns-in-Refused-groups c =
     let p = c.requires in
     let all = told_refused_job _ _
-    (rest_refused_job _ _ c.read_layers-lines.ensures _ _ c.in-At.is p.0.1.vertices (bare_occupants _ p.1) _ _ (sym c.read_groups-groups.ensures.answer ∙ c.in-Refused-groups.is))
+    (rest_refused_job _ _ c.read_layers-lines.ensures _ _ c.in-At.is p.s_len_bound.1.vertices (bare_occupants _ p.bare) _ _ (sym c.read_groups-groups.ensures.answer ∙ c.in-Refused-groups.is))
     c.refused_job.ensures in
     record { read = all.0; occupants = all.1 }
 

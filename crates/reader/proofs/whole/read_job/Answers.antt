@@ -15,13 +15,15 @@ pub read_after_head-requires : goal.read_after_head-requires
 read_after_head-requires c =
     let fits = c.if-s-gt262144.false in
     let h = job_past_head _ _ fits (sym c.read_head-read.ensures ∙ c.in-Good.is) in
-    ((fits, h.sized, h.nets, h.obstacles), c.requires)
+    record { s_len_bound = (fits, h.sized, h.nets, h.obstacles); bare = c.requires }
 
 pub returns-in-Good : goal.returns-in-Good
 returns-in-Good c =
     let h = job_past_head _ _ c.if-s-gt262144.false (sym c.read_head-read.ensures ∙ c.in-Good.is) in
-    let all = rw h.same c.read_after_head.ensures in
-    record { read = all.0; occupants = all.1 }
+    record {
+      read = rw h.same c.read_after_head.ensures.read;
+      occupants = rw h.same c.read_after_head.ensures.occupants;
+    }
 
 pub returns-in-Refused : goal.returns-in-Refused
 returns-in-Refused c =

@@ -29,15 +29,16 @@ see_net-requires c =
     let inv = c.loop-left.invariant in
     let some = c.loop-left-test.true in
     let loaded = c.load_net-loaded.ensures in
-    let own = pins_fit _ _ _ _ _ inv.nets some loaded.counts loaded.pins loaded.boxes in (
-      (
+    let own = pins_fit _ _ _ _ _ inv.nets some loaded.counts loaded.pins loaded.boxes in
+    record {
+      sized = (
         (nets_sized _ _ _ _ inv.held).sized,
         nets_room _ _ _ _ _ inv.nets,
         own.few,
         boxes_few _ _ _ _ _ inv.nets some loaded.counts loaded.pins loaded.boxes,
-      ),
-      pins_below _ _ _ _ _ inv.nets some loaded.counts loaded.pins loaded.boxes,
-    )
+      );
+      all = pins_below _ _ _ _ _ inv.nets some loaded.counts loaded.pins loaded.boxes;
+    }
 
 pub read_net-read-requires : goal.read_net-read-requires
 read_net-read-requires c =

@@ -62,7 +62,7 @@ retrace_place-start-requires c =
     let asked = retracing_asked found inv more read in
     let here = item_place pre.0 asked.0 in
     let only = retracing_only (next_by found inv more read here.0 here.1) in
-    ((pre.0, pre.1, asked.0, omega (arith, fits.2), inv.bytes, asked.1, asked.2, asked.3, pre.5), only)
+    record { tech_fits = (pre.0, pre.1, asked.0, omega (arith, fits.2), inv.bytes, asked.1, asked.2, asked.3, pre.5); by_index = only }
 
 pub loop-left-smaller : goal.loop-left-smaller
 loop-left-smaller c = omega (arith, c.loop-left-test.true)
