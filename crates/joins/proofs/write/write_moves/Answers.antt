@@ -41,8 +41,7 @@ returns-in_default c =
     let some = c.loop-left-test.true in
     let told = lead_read pre.0 _ charted _ inv.made.place c.code_of.ensures c.lead_at-number.ensures in
     let number = writing_number _ _ _ _ _ _ _ _ _ _ _ inv some pre.0 charted told in
-    let all = absurd (writing_legal _ _ _ _ _ _ _ _ _ _ _ inv some number (c.step.ensures _ pre.0 pre.1 refl) c.in_default.is) in
-    record { walk = all.0; fits = all.1.0; spots = all.1.1.0; map = all.1.1.1.0; plan = all.1.1.1.1 }
+    absurd (writing_legal _ _ _ _ _ _ _ _ _ _ _ inv some number (c.step.ensures _ pre.0 pre.1 refl) c.in_default.is)
 
 pub put-next-requires : goal.put-next-requires
 put-next-requires c =
@@ -102,6 +101,12 @@ loop-left-preserved c =
 
 pub returns : goal.returns
 returns c =
-    let all = rw (begun_at c.walk_from-walk.ensures) at
-    (writing_done _ _ _ _ _ _ _ _ _ _ _ c.loop-left.invariant.3 c.loop-left-test.false c.requires.6) in
-    record { walk = all.0; fits = all.1.0; spots = all.1.1.0; map = all.1.1.1.0; plan = all.1.1.1.1 }
+    let begun = begun_at c.walk_from-walk.ensures in
+    let all = writing_done _ _ _ _ _ _ _ _ _ _ _ c.loop-left.invariant.3 c.loop-left-test.false c.requires.6 in
+    record {
+      walk = rw begun at all.0;
+      fits = rw begun at all.1.0;
+      spots = rw begun at all.1.1.0;
+      map = rw begun at all.1.1.1.0;
+      plan = rw begun at all.1.1.1.1;
+    }

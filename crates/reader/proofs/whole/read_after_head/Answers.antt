@@ -11,8 +11,7 @@ returns-in-At-groups c =
     let p = c.requires in
     let read = c.read_groups-groups.ensures in
     let told = rest_good_job _ _ c.read_layers-lines.ensures _ _ c.in-At.is p.s_len_bound.1.vertices (bare_occupants _ p.bare) _ (sym read.answer ∙ c.in-At-groups.is) in
-    let all = rw read.occupants told in
-    record { read = all.0; occupants = all.1 }
+    record { read = told.0; occupants = rw read.occupants told.1 }
 
 pub returns-in-Refused-groups : goal.returns-in-Refused-groups
 returns-in-Refused-groups c =

@@ -10,5 +10,11 @@ read_records-requires c = c.requires
 
 pub returns : goal.returns
 returns c =
-    let all = rw c.begin_tree.ensures at c.read_records.ensures in
-    record { answer = all.0; fits = all.1.0; map = all.1.1.0; counts = all.1.1.1 }
+    let begun = c.begin_tree.ensures in
+    let read = c.read_records.ensures in
+    record {
+      answer = rw begun at read.answer;
+      fits = read.fits;
+      map = rw begun at read.map;
+      counts = rw begun at read.counts;
+    }

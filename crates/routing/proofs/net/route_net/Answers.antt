@@ -22,5 +22,10 @@ route_records-requires c =
 
 pub returns : goal.returns
 returns c =
-    let all = rw c.begin_tree.ensures at c.route_records.ensures in
-    record { answer = all.0; fits = all.1.0; work = all.1.1 }
+    let begun = c.begin_tree.ensures in
+    let routed = c.route_records.ensures in
+    record {
+      answer = rw begun at routed.answer;
+      fits = routed.fits;
+      work = routed.work;
+    }

@@ -39,6 +39,9 @@ returns c =
     let near = c.args.near.now in
     let entered = c.entered_by.ensures in
     let into = c.in-At.is in
-    let all = rw c.with_move.ensures
-    (one_lit _ pre.0 pre.1 entered into near pre.3 _, (lit_stays _ pre.0 pre.1 entered into near pre.3 _, lit_long _ pre.0 pre.1 entered into near pre.3 _)) in
-    record { lit = all.0; stays = all.1.0; long = all.1.1 }
+    let moved = c.with_move.ensures in
+    record {
+      lit = rw moved (one_lit _ pre.0 pre.1 entered into near pre.3 _);
+      stays = rw moved (lit_stays _ pre.0 pre.1 entered into near pre.3 _);
+      long = rw moved (lit_long _ pre.0 pre.1 entered into near pre.3 _);
+    }
