@@ -14,12 +14,8 @@ use Rattle.rules.proofs.Fitting.{stride_fits_lem}
 use Rattle.metal.specs.Codes.{beyond}
 use Rattle.metal.proofs.Runs.{beyond_room}
 use Rattle.metal.proofs.Turns.{Running, running_begun, running_next, running_on, running_done}
+use Rattle.metal.proofs.codes.lay_run.Invariants.{OnEnd}
 use Rattle.metal.proofs.codes.lay_run.Goals as goal
-
-abbrev OnEnd : (v stride count : ℕ) → Direction → (GridStruct → Type 0) → Type 0
-OnEnd v stride count toward fact =
-    (g : GridStruct) → v < vertices (grid_of g) → stride_of (grid_of g) (layer_of (grid_of g) v) ≡ stride
-    → count ≤ room_toward (grid_of g) (direction_of toward) v → fact g
 
 -- an end has room for as many as are asked for and the track goes on
 on_end : (g : GridStruct) (count : ℕ) {stride most : ℕ} {end : End} {fact : GridStruct → Type 0} → EndOn (grid_of g) stride end → most ≡ min count end.room

@@ -1,6 +1,5 @@
 -- `metal::codes::lay_run` meets its contract: so many vertices are laid, and laying those that are left
 -- beyond the last gives all.
--- a fact of every grid on which the end lies with room for so many (the loop no longer holds the end)
 use Prim.Native.Nat.{ℕ, ◌-◌, ◌≤◌, ◌<◌, min}
 use mathlib.Core.Path.{◌≡◌, refl, ap, ◌∙◌}
 use native.Mathlib.Omega.{arith}
@@ -17,6 +16,12 @@ use Rattle.metal.specs.Codes.{beyond}
 use Rattle.metal.proofs.Runs.{beyond_room}
 use Rattle.metal.proofs.Turns.{Running, running_begun, running_next, running_on, running_done}
 use Rattle.metal.proofs.codes.lay_run.Given as goal
+
+-- a fact of every grid on which the end lies with room for so many (the loop no longer holds the end)
+abbrev pub OnEnd : (v stride count : ℕ) → Direction → (GridStruct → Type 0) → Type 0
+OnEnd v stride count toward fact =
+    (g : GridStruct) → v < vertices (grid_of g) → stride_of (grid_of g) (layer_of (grid_of g) v) ≡ stride
+    → count ≤ room_toward (grid_of g) (direction_of toward) v → fact g
 
 abbrev pub invariant-loop-count : goal.invariant-loop-count
 invariant-loop-count l =
