@@ -1,5 +1,6 @@
 -- `search::seed::some_in` meets its contract.
 use Prim.Native.Nat.{◌-◌}
+use mathlib.Core.Logic.{inl, inr}
 use native.Mathlib.Omega.{arith}
 use Rattle.search.proofs.Seeding.{Flagged, flagged_begun, flagged_on, flagged_none}
 use Rattle.search.proofs.seed.some_in.Goals as goal
