@@ -24,8 +24,8 @@ loop-i-smaller c = omega (arith, c.loop-i-test.true)
 pub loop-i-preserved : goal.loop-i-preserved
 loop-i-preserved c = 
     elim c.if-spots-from-ne0.branch [
-        then-spots-from-ne0 w ↦ flagged_on c.loop-i.invariant c.loop-i-test.true (inl (w.if-spots-from-ne0.true, w.flag-is)) (λ stays. absurd (w.if-spots-from-ne0.true stays))
-      | else-spots-from-ne0 w ↦ flagged_on c.loop-i.invariant c.loop-i-test.true (inr (w.if-spots-from-ne0.false, w.flag-is)) (λ stays. stays)
+        then-spots-from-ne0 w ↦ flagged_on c.loop-i.invariant c.loop-i-test.true (inl (w.if-spots-from-ne0.true, w.some-is)) (λ stays. absurd (w.if-spots-from-ne0.true stays))
+      | else-spots-from-ne0 w ↦ flagged_on c.loop-i.invariant c.loop-i-test.true (inr (w.if-spots-from-ne0.false, w.some-is)) (λ stays. stays)
     ]
 
 pub returns : goal.returns
