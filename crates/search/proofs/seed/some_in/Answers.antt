@@ -25,7 +25,7 @@ pub loop-i-preserved : goal.loop-i-preserved
 loop-i-preserved c = 
     elim c.if-spots-from-ne0.branch [
         then-spots-from-ne0 w ↦ flagged_on c.loop-i.invariant c.loop-i-test.true (inl (w.if-spots-from-ne0.true, w.some-is)) (λ stays. absurd (w.if-spots-from-ne0.true stays))
-      | else-spots-from-ne0 w ↦ flagged_on c.loop-i.invariant c.loop-i-test.true (inr (w.if-spots-from-ne0.false, w.some-is)) (λ stays. stays)
+      | else-spots-from-ne0 w ↦ flagged_on {Set = ⊥} c.loop-i.invariant c.loop-i-test.true (inr (w.if-spots-from-ne0.false, w.some-is)) (λ stays. stays)
     ]
 
 pub returns : goal.returns
