@@ -105,7 +105,7 @@ returns c =
     let all = writing_done _ _ _ _ _ _ _ _ _ _ _ c.loop-left.invariant.3 c.loop-left-test.false c.requires.6 in
     record {
       walk = rw begun at all.0;
-      fits = rw begun at all.1.0;
+      fits = all.1.0;
       spots = rw begun at all.1.1.0;
       map = rw begun at all.1.1.1.0;
       plan = rw begun at all.1.1.1.1;
