@@ -60,7 +60,7 @@ unfolding tech_by
 returns-in-None c =
     let inv = c.loop-left.invariant in
     let some = sym c.some_unjoined.ensures ∙ c.if-not-some_unjoined.false in
-    let (written, (fits, (fewer, work))) = c.next_join-joined.ensures in
+    let record { written = written; fits = fits; fewer = fewer; work = work } = c.next_join-joined.ensures in
     let (routed, small) = recording_none _ _ _ _ _ _ _ _ _ inv.0 c.requires.4.there.few c.loop-left-test.true some _ _ _ _
     written c.in-None.is in
     record {
@@ -91,10 +91,10 @@ unfolding tech_by
 loop-left-preserved c =
     let inv = c.loop-left.invariant in
     let some = sym c.some_unjoined.ensures ∙ c.if-not-some_unjoined.false in
-    let (written, (fits, (fewer, work))) = c.next_join-joined.ensures in (
+    let record { written = written; fits = fits; fewer = fewer; work = work } = c.next_join-joined.ensures in (
       recording_on _ _ _ _ _ _ _ _ _ inv.0 c.requires.4.there.few c.loop-left-test.true some _ _ _ _
           written fits
-          c.map-1.given c.plan-1.given c.in-Join.is c.with_join-totals.ensures,
+          c.next_join-joined.auto.map c.next_join-joined.auto.plan c.in-Join.is c.with_join-totals.ensures,
       work ∙ inv.1,
       record { there = inv.2.there; on_grid = inv.2.on_grid; known = λ v h is. inv.2.known v h (fewer v is) },
     )

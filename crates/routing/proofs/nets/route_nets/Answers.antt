@@ -68,9 +68,9 @@ pub loop-left-preserved : goal.loop-left-preserved
 loop-left-preserved c =
     let inv = c.loop-left.invariant in
     let loaded = c.load_net-loaded.ensures in
-    let (answer, (fits, work)) = c.route_net-routed.ensures in (
-      netting_on _ _ _ _ _ inv.0 c.loop-left-test.true loaded.counts loaded.pins loaded.boxes _ c.see_net.ensures _ answer fits c.plan-1.given,
-      work ∙ inv.1,
+    let routed = c.route_net-routed.ensures in (
+      netting_on _ _ _ _ _ inv.0 c.loop-left-test.true loaded.counts loaded.pins loaded.boxes _ c.see_net.ensures _ routed.answer routed.fits c.route_net-routed.auto.plan,
+      routed.work ∙ inv.1,
     )
 
 pub shape_of-map : goal.shape_of-map

@@ -38,7 +38,7 @@ returns c =
     let count = c.vertices-count.ensures in
     let zeros = count-zeroed _ count c.zero_codes.ensures in
     let kept = c.lay_all_pins.ensures.kept in
-    let (routed, (fits, work)) = c.route_nets-routed.ensures in
+    let record { answer = routed; fits = fits; work = work } = c.route_nets-routed.ensures in
     record {
       answer = routed_answer _ _ _ _ _ _ held zeros kept _ _ routed;
       fits = fits.reach;
