@@ -20,7 +20,7 @@ replay_job-requires c =
 pub returns-in-Refused : goal.returns-in-Refused
 returns-in-Refused c =
     let none = refused_room _ _ _ (read_refused _ _ c.read_job-read.ensures.read _ _ c.in-Refused.is) in
-    (replay_refused _ _ _ _ none c.refused_replay.ensures, counts_none _ _ _ _ _ _ none)
+    record { outcome = replay_refused _ _ _ _ none c.refused_replay.ensures; counts = counts_none _ _ _ _ _ _ none }
 
 pub returns-in-At : goal.returns-in-At
 returns-in-At c = c.replay_job.ensures
