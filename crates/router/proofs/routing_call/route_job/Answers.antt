@@ -35,6 +35,6 @@ returns-in-Enough c =
     let enough = room_enough h _ _ c.room_for-room.ensures c.in-Enough.is in
     let routed = c.route_plan-routed.ensures in
     let ended = c.end_routing.ensures in
-    route_ended _ _ _ _ h.job enough.read (bytes_below _ ?) _ _ _ _ _ h.vertices (routed.answer h.job h.read)
+    route_ended _ _ _ _ h.job enough.read (bytes_below _ (search rules)) _ _ _ _ _ h.vertices (routed.answer h.job h.read)
     (routed.map h.job h.read) (routed.plan h.job h.read) (routed.work ∙ rw h.work at c.zero_words.ensures)
     ended.result ended.map ended.plan
