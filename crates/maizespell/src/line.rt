@@ -1,6 +1,5 @@
 // The line for a job's bytes, put into a slice that the caller lends.
-ghost use Rattle.std.specs.Prelude.{◌≤◌, length};
-ghost use Rattle.io.specs.Counts.{IsPrefixLen};
+ghost use Rattle.std.specs.Prelude.{◌≡◌, ◌≤◌, length, take};
 ghost use Rattle.lines.specs.Written.{Written};
 ghost use Rattle.maizespell.specs.Line.{routed_line, good_line, line_of};
 
@@ -43,7 +42,7 @@ fn good_line(bytes: &[u8], line: &mut [u8], vertices: usize, largest: usize) -> 
 pub fn line_of(bytes: &[u8], line: &mut [u8]) -> usize
     requires { 196609 ≤ length line.old }
     ensures line { Written line.old line.new result (line_of bytes.now) }
-    ensures counts { IsPrefixLen result line.new }
+    ensures counts { (result ≤ length line.new) × (result ≡ length (take result line.new)) }
 {
     if 65536 < bytes.len() {
         return put_too_large(line);
