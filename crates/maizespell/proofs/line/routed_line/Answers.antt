@@ -9,16 +9,16 @@ pub returns-then-routed-ne0 : goal.returns-then-routed-ne0
 returns-then-routed-ne0 c =
     let bytes = c.args.bytes.now in
     let routed = c.maizespell_routing-routed in
-    rw (routed_refused bytes routed.result routed.ensures.0 c.if-routed-ne0.true) c.put_refused_line.ensures
+    rw (routed_refused bytes routed.result routed.ensures.result c.if-routed-ne0.true) c.put_refused_line.ensures
 
 pub put_hex_line-requires : goal.put_hex_line-requires
 put_hex_line-requires c =
     let bytes = c.args.bytes.now in
     let routed = c.maizespell_routing-routed in
-    omega (arith, routed_room bytes routed.result routed.ensures.0)
+    omega (arith, routed_room bytes routed.result routed.ensures.result)
 
 pub returns : goal.returns
 returns c =
     let bytes = c.args.bytes.now in
     let routed = c.maizespell_routing-routed in
-    rw (routed_plan bytes routed.result routed.ensures.0 _ routed.ensures.1.1.1.0 c.if-routed-ne0.false) c.put_hex_line.ensures
+    rw (routed_plan bytes routed.result routed.ensures.result _ routed.ensures.plan c.if-routed-ne0.false) c.put_hex_line.ensures
