@@ -8,13 +8,13 @@ use std::path::{Path, PathBuf};
 /// The library's archive, in the folder that MAIZESPELL_LIB_DIR names.
 pub fn library() -> Result<PathBuf, String> {
     let folder = place("MAIZESPELL_LIB_DIR", "staticlib");
-    found("library", folder.join("librouter.a"), "rt staticlib router")
+    found("library", folder.join("librouter.a"), "tools/build library")
 }
 
 /// The program, which MAIZESPELL_PROGRAM names.
 pub fn program() -> Result<PathBuf, String> {
     let file = place("MAIZESPELL_PROGRAM", "bin/maizespell");
-    found("program", file, "rt check maizespell")
+    found("program", file, "tools/build program")
 }
 
 /// A program of the host, in the folder that MAIZESPELL_HOST_DIR names.

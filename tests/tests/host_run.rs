@@ -146,7 +146,7 @@ fn the_build_says_what_it_expects() {
     for arguments in [&[][..], &["library"], &["library", "folder", "more"]] {
         check_said(&run(arguments), 2, &usage);
     }
-    let how = "'rt staticlib router' builds target/staticlib/librouter.a";
+    let how = "'tools/build library' builds target/staticlib/librouter.a";
     let missing = format!("there is no library none.a: {how}\n");
     check_said(&run(&["none.a", "folder"]), 2, &missing);
 }

@@ -16,7 +16,7 @@ BUILT = Path(__file__).resolve().parents[2] / "target" / "bin" / "maizespell"
 """Where the repository's program is built."""
 
 HOST_IS = "--host expects the host that examples/host/build builds"
-HOW = "'rt check maizespell' builds it as target/bin/maizespell, or --program or --host names one"
+HOW = "'tools/build program' builds it as target/bin/maizespell, or --program or --host names one"
 
 
 def program_path(given: Optional[str]) -> str:

@@ -190,7 +190,7 @@ class Routing(Folder):
         self.fails(too_large, 1, "'maize route --host HOST' routes it, with the host that examples/host/build builds")
 
     def test_programs_that_fail(self):
-        self.fails(maize("route", A, "--program", self.folder / "none"), 1, "'rt check maizespell' builds it")
+        self.fails(maize("route", A, "--program", self.folder / "none"), 1, "'tools/build program' builds it")
         self.fails(maize("route", A, "--program", self.stand_in("", 3)), 1, "ended with status 3")
         self.fails(maize("route", A, "--program", self.stand_in("")), 1, "wrote no line that this tool knows")
         self.fails(maize("route", A, "--program", self.stand_in("hello\\n")), 1, "wrote no line that this tool knows")
