@@ -6,7 +6,7 @@
 --     room_read                    the room, by what the code has read of the track
 --     run_on, run_stops            a clear run from a vertex, by whether the next one is clear
 --     run_within                   a clear run is no longer than it may be, nor than the room
-use Prim.Native.Nat.{ℕ, zero, suc, ◌≤◌, ◌<◌, ◌-◌, min}
+use Prim.Native.Nat.{ℕ, zero, suc, ◌≤◌, ◌<◌, min}
 use mathlib.Core.Path.{◌≡◌, refl, sym, ap}
 use mathlib.Core.List.{[], ◌∷◌}
 use mathlib.Core.Bool.{Bool, true, false}

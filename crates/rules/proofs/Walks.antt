@@ -5,7 +5,7 @@
 --     First, walk_first             a walk taken apart after its first move
 --     Walks, route_walk             the walk of a route: its end, its cost, the vertices entered and the
 --                                   vertices laid
-use Prim.Native.Nat.{ℕ, ◌+◌, ◌<◌}
+use Prim.Native.Nat.{ℕ, ◌<◌}
 use mathlib.Core.Path.{◌≡◌, refl, ◌∙◌}
 use mathlib.Core.List.{List, [], ◌∷◌, ◌++◌, flat_map}
 use mathlib.Core.Bool.{true, false}

@@ -20,7 +20,7 @@ use Rattle.bits.specs.Puts.{AllBelow}
 use Rattle.job.specs.Lists.{all, All}
 use Rattle.job.specs.Grid.{Grid, Vertex, inside, run_high}
 use Rattle.job.specs.Job.{Layer, Obstacle, Box}
-use Rattle.job.specs.Reading.{good, layer_at, read_layer, via_rule, vertex_at, obstacle_at, covered, read_obstacle, box_at, good_span, good_box, read_box}
+use Rattle.job.specs.Reading.{good, layer_at, read_layer, vertex_at, obstacle_at, covered, read_obstacle, box_at, good_span, good_box, read_box}
 use Rattle.job.specs.Reading.{read_many}
 use Rattle.job.specs.Packing.{layer_bits, vertex_bits, obstacle_bits, box_bits}
 use Rattle.job.specs.Good.{GoodGrid, GoodLayer, GoodLines, GoodObstacle}

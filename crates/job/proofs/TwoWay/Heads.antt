@@ -10,7 +10,7 @@ use mathlib.Core.List.{List, [], ◌∷◌}
 use lib.Dec.{T, lit<}
 use Rattle.bits.specs.Bits.{field, whole, group_bits}
 use Rattle.bits.specs.Puts.{AllBelow}
-use Rattle.job.specs.Grid.{Grid, vertices}
+use Rattle.job.specs.Grid.{Grid}
 use Rattle.job.specs.Reading.{good, Head, head_at, read_head}
 use Rattle.job.specs.Good.{GoodGrid}
 use Rattle.job.proofs.Tests.{tests}

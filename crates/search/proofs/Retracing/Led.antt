@@ -17,7 +17,6 @@ use Rattle.paths.specs.Costs.{Cost, fin}
 use Rattle.paths.specs.Leads.{ends, goes_on, is_lead, lowest_lead, is_led}
 use Rattle.paths.proofs.FollowLeads.{same_test}
 use Rattle.paths.proofs.Leads.{leads_map, test_leads, leads_test}
-use Rattle.rules.specs.Tracks.{at}
 use Rattle.rules.specs.Views.{View}
 use Rattle.rules.specs.Segments.{Place}
 use Rattle.rules.specs.Prices.{Tech}

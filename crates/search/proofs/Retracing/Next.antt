@@ -15,7 +15,6 @@ use lib.ListN.{length, get_or}
 use Rattle.paths.specs.Costs.{Cost, fin}
 use Rattle.paths.specs.Leads.{Leads, ends, goes_on, lowest_lead}
 use Rattle.paths.proofs.Leads.{test_leads}
-use Rattle.rules.specs.Tracks.{at}
 use Rattle.rules.specs.Views.{View}
 use Rattle.rules.specs.Segments.{Place}
 use Rattle.rules.specs.Prices.{Tech}

@@ -15,7 +15,6 @@ use Rattle.paths.specs.Systems.{Legal}
 use Rattle.paths.specs.Costs.{Cost, fin}
 use Rattle.paths.specs.Starts.{Starts}
 use Rattle.paths.specs.Leads.{lowest_lead, is_led}
-use Rattle.rules.specs.Tracks.{at}
 use Rattle.rules.specs.Views.{View}
 use Rattle.rules.specs.Segments.{Place}
 use Rattle.rules.specs.Prices.{Tech}

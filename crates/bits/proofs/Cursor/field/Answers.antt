@@ -1,9 +1,8 @@
 -- `bits::Cursor::field` meets its contract.
-use borrow.Author.Rules.{rules}
 use Prim.Native.Nat.{◌%◌}
 use native.Mathlib.Omega.{arith}
 use Rattle.bits.proofs.Laws.{field_below, field_bits_bits}
-use Rattle.bits.proofs.Turn.{Read, read_first, read_room, read_turn, read_last}
+use Rattle.bits.proofs.Turn.{read_first, read_room, read_turn, read_last}
 use Rattle.bits.proofs.Cursor.field.Goals as goal
 
 pub loop-left-init : goal.loop-left-init

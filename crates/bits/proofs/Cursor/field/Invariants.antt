@@ -1,11 +1,7 @@
 -- `bits::Cursor::field` meets its contract. The invariant, `Read`: what is read so far is the field of the
 -- bits passed. A turn reads the part that lies in one byte (`read_turn`), and the measure is the number of
 -- bits still to read. Assumes nothing.
-use borrow.Author.Rules.{rules}
-use Prim.Native.Nat.{◌%◌}
-use native.Mathlib.Omega.{arith}
-use Rattle.bits.proofs.Laws.{field_below, field_bits_bits}
-use Rattle.bits.proofs.Turn.{Read, read_first, read_room, read_turn, read_last}
+use Rattle.bits.proofs.Turn.{Read}
 use Rattle.bits.proofs.Cursor.field.Given as goal
 
 abbrev pub invariant-loop-left : goal.invariant-loop-left

@@ -1,11 +1,10 @@
 -- `bits::Cursor::put` meets its contract.
-use borrow.Author.Rules.{rules}
 use mathlib.Core.Path.{ap, ◌∙◌}
 use lib.ListN.{length}
 use native.Mathlib.Omega.{arith}
 use Rattle.bits.specs.Bits.{field_bits}
 use Rattle.bits.proofs.Laws.{length-put_bits}
-use Rattle.bits.proofs.Turn.{Put, put_turn, put_last}
+use Rattle.bits.proofs.Turn.{put_turn, put_last}
 use Rattle.bits.proofs.Cursor.put.Goals as goal
 
 pub overflow_sub-at : goal.overflow_sub-at

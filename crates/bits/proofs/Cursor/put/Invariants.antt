@@ -1,13 +1,7 @@
 -- `bits::Cursor::put` meets its contract. The invariant, `Put`: to put the bits that are left gives what
 -- putting all of them gave. A turn puts the part that lies in one byte (`put_turn`), and the measure is the
 -- number of bits still to put. Assumes nothing.
-use borrow.Author.Rules.{rules}
-use mathlib.Core.Path.{ap, ◌∙◌}
-use lib.ListN.{length}
-use native.Mathlib.Omega.{arith}
-use Rattle.bits.specs.Bits.{field_bits}
-use Rattle.bits.proofs.Laws.{length-put_bits}
-use Rattle.bits.proofs.Turn.{Put, put_turn, put_last}
+use Rattle.bits.proofs.Turn.{Put}
 use Rattle.bits.proofs.Cursor.put.Given as goal
 
 abbrev pub invariant-loop-left : goal.invariant-loop-left

@@ -1,6 +1,5 @@
 -- `bits::part::put_part` meets its contract: the one store puts all the bits (`put_in_byte_lem`), and past the
 -- last byte nothing is put (`put_out`). Assumes nothing.
-use borrow.Author.Rules.{rules}
 use mathlib.Core.Path.{sym}
 use native.Mathlib.Omega.{arith}
 use Rattle.bits.specs.Bits.{field_bits}

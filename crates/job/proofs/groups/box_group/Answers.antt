@@ -1,5 +1,4 @@
 -- `job::groups::box_group` meets its contract: the six fields follow each other in the group's 38 bits.
-use borrow.Author.Rules.{rules}
 use native.Mathlib.Nat.{add_assoc}
 use native.Mathlib.Omega.{arith}
 use Rattle.job.specs.Reading.{box_at}

@@ -1,5 +1,4 @@
 -- `job::groups::layer_group` meets its contract: the four fields follow each other in the group's 40 bits.
-use borrow.Author.Rules.{rules}
 use native.Mathlib.Nat.{add_assoc}
 use native.Mathlib.Omega.{arith}
 use Rattle.job.specs.Reading.{layer_at}

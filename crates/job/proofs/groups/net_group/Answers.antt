@@ -1,7 +1,6 @@
 -- `job::groups::net_group` meets its contract: the two fields follow each other in the group's 8 bits.
 use Prim.Native.Nat.{ℕ}
 use mathlib.Core.Path.{◌≡◌, refl}
-use borrow.Author.Rules.{rules}
 use native.Mathlib.Omega.{arith}
 use Rattle.job.specs.Structs.{net_group}
 use Rattle.job.specs.declared.groups.NetGroup.{NetGroup}

@@ -1,5 +1,4 @@
 -- `job::groups::obstacle_group` meets its contract: the four fields follow each other in the group's 27 bits.
-use borrow.Author.Rules.{rules}
 use native.Mathlib.Nat.{add_assoc}
 use native.Mathlib.Numerals.{add-one}
 use native.Mathlib.Omega.{arith}

@@ -1,5 +1,4 @@
 -- `job::groups::vertex_group` meets its contract: the three fields follow each other in the group's 19 bits.
-use borrow.Author.Rules.{rules}
 use native.Mathlib.Nat.{add_assoc}
 use native.Mathlib.Omega.{arith}
 use Rattle.job.specs.Reading.{vertex_at}

@@ -1,5 +1,4 @@
 -- `router::replay_call::maizespell_replay` meets its contract.
-use borrow.Author.Rules.{rules}
 use Rattle.router.proofs.Holding.{bytes_below}
 use Rattle.router.proofs.Replays.{replay_parts}
 use Rattle.router.proofs.Reports.{zeros_fit}

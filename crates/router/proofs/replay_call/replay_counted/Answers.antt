@@ -1,5 +1,4 @@
 -- `router::replay_call::replay_counted` meets its contract: the job is refused, or it is replayed.
-use borrow.Author.Rules.{rules}
 use Rattle.reader.proofs.Outcome.{read_at, read_refused, zeros_bare}
 use Rattle.router.proofs.Holding.{head_holds, job_held, refused_room}
 use Rattle.router.proofs.Replays.{replay_refused}

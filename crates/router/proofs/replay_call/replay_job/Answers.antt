@@ -1,6 +1,5 @@
 -- `router::replay_call::replay_job` meets its contract: a slice is short, or the plan is read.
 use native.Mathlib.Omega.{arith}
-use borrow.Author.Rules.{rules}
 use Rattle.router.proofs.Holding.{room_short, room_enough, plan_asked}
 use Rattle.router.proofs.Promises.{room_read}
 use Rattle.router.proofs.Replays.{replay_refused, replay_read_lem}

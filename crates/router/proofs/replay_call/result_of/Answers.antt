@@ -1,5 +1,4 @@
 -- `router::replay_call::result_of` meets its contract.
-use borrow.Author.Rules.{rules}
 use Rattle.router.proofs.Replays.{result_refused, result_good}
 use Rattle.router.proofs.replay_call.result_of.Goals as goal
 

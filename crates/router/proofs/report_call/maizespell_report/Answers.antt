@@ -1,6 +1,5 @@
 -- `router::report_call::maizespell_report` meets its contract: the plan is turned back, or its counts are
 -- tried.
-use borrow.Author.Rules.{rules}
 use Rattle.router.proofs.Reports.{zeros_fit, counts_long, report_turned, report_taken}
 use Rattle.router.proofs.Adds.{report_parts}
 use Rattle.router.proofs.report_call.maizespell_report.Goals as goal

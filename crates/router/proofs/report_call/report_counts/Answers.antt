@@ -1,5 +1,4 @@
 -- `router::report_call::report_counts` meets its contract.
-use borrow.Author.Rules.{rules}
 use Rattle.router.proofs.Reports.{added_refused, added_whole}
 use Rattle.router.proofs.report_call.report_counts.Goals as goal
 

@@ -1,5 +1,4 @@
 -- `router::routing_call::end_routing` meets its contract: the plan slice is short, or it is not.
-use borrow.Author.Rules.{rules}
 use Rattle.router.specs.Routing.{total_result}
 use Rattle.router.proofs.Routes.{end_short, end_enough}
 use Rattle.router.proofs.routing_call.end_routing.Goals as goal

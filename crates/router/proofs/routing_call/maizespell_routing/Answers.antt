@@ -1,5 +1,4 @@
 -- `router::routing_call::maizespell_routing` meets its contract: the job is refused, or it is routed.
-use borrow.Author.Rules.{rules}
 use Rattle.reader.proofs.Outcome.{read_at, read_refused, zeros_bare}
 use Rattle.router.proofs.Holding.{head_holds, job_held, refused_room}
 use Rattle.router.proofs.Ends.{routes_refused}

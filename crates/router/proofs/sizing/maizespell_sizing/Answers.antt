@@ -1,6 +1,5 @@
 -- `router::sizing::maizespell_sizing` meets its contract: the job is refused, or its numbers are those of the
 -- job that was read.
-use borrow.Author.Rules.{rules}
 use Rattle.reader.proofs.Outcome.{read_at, read_refused, zeros_bare}
 use Rattle.router.proofs.Holding.{head_holds, job_held}
 use Rattle.router.proofs.Sizes.{good_sized, refused_sized}

@@ -3,7 +3,6 @@
 use native.Mathlib.Omega.{arith}
 use Prim.Native.Nat.{ℕ, zero, suc}
 use mathlib.Core.Path.{◌≡◌, refl, sym, ◌∙◌}
-use borrow.Author.Rules.{rules}
 use Rattle.rules.specs.Structs.{end_on}
 use Rattle.rules.specs.declared.segment.Direction.{Direction}
 use Rattle.rules.specs.declared.track.Track.{Track}

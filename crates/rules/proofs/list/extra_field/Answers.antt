@@ -6,7 +6,6 @@ use mathlib.Core.Bool.{Bool, ◌||◌, cond}
 use native.Mathlib.Omega.{arith}
 use lib.Dec.{eqb}
 use borrow.Author.Tests.{eq-eqb, ne_eqb}
-use borrow.Author.Rules.{rules}
 use Rattle.job.specs.Job.{closed_price}
 use Rattle.rules.specs.Seen.{holds}
 use Rattle.rules.specs.PriceLists.{outside_field, extra_field}

@@ -1,10 +1,7 @@
 -- `rules::list::fill_flags` meets its contract.
-use Prim.Native.Nat.{◌-◌}
 use mathlib.Core.Path.{refl}
 use native.Mathlib.Omega.{arith}
-use borrow.Author.Rules.{rules}
-use Rattle.rules.specs.PriceLists.{extra_field}
-use Rattle.rules.proofs.Lists.{Filled, filled_none, filled_turn, flags_all, flags_kept}
+use Rattle.rules.proofs.Lists.{filled_none, filled_turn, flags_all, flags_kept}
 use Rattle.rules.proofs.list.fill_flags.Goals as goal
 
 pub loop-byte-init : goal.loop-byte-init

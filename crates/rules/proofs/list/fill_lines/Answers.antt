@@ -1,8 +1,6 @@
 -- `rules::list::fill_lines` meets its contract.
-use Prim.Native.Nat.{◌-◌}
 use native.Mathlib.Omega.{arith}
-use borrow.Author.Rules.{rules}
-use Rattle.rules.proofs.Lists.{LinesSoFar, lines_none, lines_turn, lines_all}
+use Rattle.rules.proofs.Lists.{lines_none, lines_turn, lines_all}
 use Rattle.rules.proofs.list.fill_lines.Goals as goal
 
 pub loop-layer-init : goal.loop-layer-init

@@ -1,8 +1,6 @@
 -- `rules::list::fill_lines` meets its contract: the layers below have their lines.
 use Prim.Native.Nat.{◌-◌}
-use native.Mathlib.Omega.{arith}
-use borrow.Author.Rules.{rules}
-use Rattle.rules.proofs.Lists.{LinesSoFar, lines_none, lines_turn, lines_all}
+use Rattle.rules.proofs.Lists.{LinesSoFar}
 use Rattle.rules.proofs.list.fill_lines.Given as goal
 
 abbrev pub invariant-loop-layer : goal.invariant-loop-layer

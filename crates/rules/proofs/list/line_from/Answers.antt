@@ -1,6 +1,5 @@
 -- `rules::list::line_from` meets its contract.
 use mathlib.Core.Path.{refl}
-use borrow.Author.Rules.{rules}
 use Rattle.rules.specs.Structs.{line_at}
 use Rattle.rules.proofs.list.line_from.Goals as goal
 

@@ -5,7 +5,6 @@ use mathlib.Core.Path.{◌≡◌, refl, sym, ◌∙◌}
 use mathlib.Core.List.{[]}
 use mathlib.Core.Bool.{Bool, true, false, cond}
 use lib.Dec.{eqb}
-use borrow.Author.Rules.{rules}
 use Rattle.job.specs.Job.{closed_price}
 use Rattle.job.specs.Structs.{penalty_of}
 use Rattle.job.specs.declared.penalty.Penalty.TheVariants.{Closed, Price}

@@ -4,7 +4,6 @@ use Prim.Native.Nat.{ℕ, ◌<◌}
 use mathlib.Core.Path.{◌≡◌, refl, ap, ◌∙◌}
 use mathlib.Core.List.{List}
 use native.Mathlib.Omega.{arith}
-use borrow.Author.Rules.{rules}
 use Rattle.job.specs.Structs.{grid_of, vertex_of, layer_struct}
 use Rattle.job.specs.declared.groups.Layer.{Layer}
 use Rattle.job.specs.declared.grid.Vertex.{Vertex as VertexStruct}

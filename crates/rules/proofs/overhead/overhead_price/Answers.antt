@@ -1,7 +1,6 @@
 -- `rules::overhead::overhead_price` meets its contract.
 use native.Mathlib.Nat.{le_of_lt}
 use native.Mathlib.Omega.{arith}
-use borrow.Author.Rules.{rules}
 use Rattle.job.proofs.Sizes.{product_within}
 use Rattle.rules.specs.Structs.{cost_of, overhead_cost, FewMissing}
 use Rattle.rules.proofs.overhead.overhead_price.Goals as goal

@@ -1,24 +1,11 @@
 -- `rules::overhead::too_short` meets its contract. Between turns of the outer loop the clear vertices beyond
 -- so many ends are counted; at an end, those up to the last vertex are.
-use Prim.Native.Nat.{ℕ, ◌+◌, ◌-◌, ◌≤◌, ◌<◌, min}
-use mathlib.Core.Path.{◌≡◌, refl, sym, ◌∙◌}
-use native.Mathlib.Omega.{arith}
-use borrow.Author.Rules.{rules}
-use borrow.Author.Tests.{not-true, not-false}
-use Rattle.job.specs.Grid.{vertices}
-use Rattle.job.specs.Structs.{Sized, grid_of}
-use Rattle.job.specs.declared.grid.Grid.{Grid as GridStruct}
-use Rattle.job.specs.declared.grid.Vertex.{Vertex as VertexStruct}
+use Prim.Native.Nat.{◌+◌, ◌-◌}
+use mathlib.Core.Path.{◌≡◌}
 use Rattle.rules.specs.Seen.{view_by}
-use Rattle.rules.specs.Structs.{OnGrid, direction_of, end_on}
-use Rattle.rules.specs.declared.segment.Direction.{Direction}
-use Rattle.rules.specs.declared.track.Track.{Track}
-use Rattle.rules.specs.declared.end.End.{End}
-use Rattle.rules.proofs.Fitting.{TrackRead, track_known}
-use Rattle.rules.proofs.Held.{seen_clear}
-use Rattle.rules.proofs.Runs.{OnTrack, Counting, counting_begun, counting_next, counting_on, counting_unclear, counting_full}
-use Rattle.rules.proofs.Ends.{EndRead, end_read, Counted, counted-begun, counted_on, counted-within, counted_done}
-use Rattle.rules.proofs.Owed.{short_pays, short_lays}
+use Rattle.rules.specs.Structs.{direction_of}
+use Rattle.rules.proofs.Runs.{OnTrack, Counting}
+use Rattle.rules.proofs.Ends.{Counted}
 use Rattle.rules.proofs.overhead.too_short.Given as goal
 
 abbrev pub invariant-loop-count : goal.invariant-loop-count

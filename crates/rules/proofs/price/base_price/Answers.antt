@@ -1,6 +1,5 @@
 -- `rules::price::base_price` meets its contract: each kind of move by the line that prices it.
 use mathlib.Core.Path.{refl, ap}
-use borrow.Author.Rules.{rules}
 use Rattle.rules.specs.PriceLists.{line_in, base_in}
 use Rattle.rules.specs.Structs.{kind_by}
 use Rattle.rules.proofs.price.base_price.Goals as goal

@@ -1,6 +1,5 @@
 -- `rules::price::extra_of` meets its contract.
 use mathlib.Core.Path.{◌∙◌, ap}
-use borrow.Author.Rules.{rules}
 use Rattle.rules.specs.PriceLists.{extra_in}
 use Rattle.rules.specs.Structs.{cost_of}
 use Rattle.rules.proofs.Held.{from_cost}

@@ -1,6 +1,5 @@
 -- `rules::price::line_at` meets its contract.
 use mathlib.Core.Path.{refl}
-use borrow.Author.Rules.{rules}
 use Rattle.rules.specs.PriceLists.{line_in}
 use Rattle.rules.proofs.price.line_at.Goals as goal
 

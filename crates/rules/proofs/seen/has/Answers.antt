@@ -1,6 +1,5 @@
 -- `rules::seen::has` meets its contract.
 use mathlib.Core.Path.{refl}
-use borrow.Author.Rules.{rules}
 use Rattle.rules.specs.Seen.{holds}
 use Rattle.rules.proofs.seen.has.Goals as goal
 

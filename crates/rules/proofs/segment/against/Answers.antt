@@ -1,5 +1,4 @@
 -- `rules::segment::against` meets its contract.
-use borrow.Author.Rules.{rules}
 use Rattle.rules.specs.Segments.{against}
 use Rattle.rules.specs.Structs.{direction_of}
 use Rattle.rules.proofs.segment.against.Goals as goal

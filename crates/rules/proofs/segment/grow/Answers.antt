@@ -1,7 +1,6 @@
 -- `rules::segment::grow` meets its contract.
 use mathlib.Core.Path.{ap, ◌∙◌}
 use native.Mathlib.Omega.{arith}
-use borrow.Author.Rules.{rules}
 use Rattle.rules.specs.Segments.{of_length, not_against, grown, grow}
 use Rattle.rules.specs.Structs.{segment_of, grown_of, Short}
 use Rattle.rules.proofs.Fitting.{one_more}

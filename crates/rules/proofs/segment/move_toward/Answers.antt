@@ -1,6 +1,5 @@
 -- `rules::segment::move_toward` meets its contract.
 use mathlib.Core.Path.{refl}
-use borrow.Author.Rules.{rules}
 use Rattle.rules.specs.Overheads.{toward}
 use Rattle.rules.specs.Structs.{direction_of}
 use Rattle.rules.proofs.segment.move_toward.Goals as goal

@@ -1,6 +1,5 @@
 -- `rules::segment::not_against` meets its contract.
 use mathlib.Core.Path.{sym, ◌∙◌}
-use borrow.Author.Rules.{rules}
 use Rattle.rules.specs.Segments.{not_against}
 use Rattle.rules.specs.Structs.{grown_of}
 use Rattle.rules.proofs.segment.not_against.Goals as goal

@@ -1,6 +1,5 @@
 -- `rules::segment::opposite` meets its contract.
 use mathlib.Core.Path.{refl}
-use borrow.Author.Rules.{rules}
 use Rattle.rules.specs.Structs.{opposite_to}
 use Rattle.rules.proofs.segment.opposite.Goals as goal
 

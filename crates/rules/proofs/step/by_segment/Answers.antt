@@ -1,6 +1,5 @@
 -- `rules::step::by_segment` meets its contract.
 use mathlib.Core.Path.{ap, ◌∙◌}
-use borrow.Author.Rules.{rules}
 use Rattle.job.specs.declared.groups.Layer.{Layer}
 use Rattle.rules.specs.Steps.{by_segment}
 use Rattle.rules.specs.Structs.{kind_by}

@@ -1,7 +1,6 @@
 -- `rules::step::entry_of` meets its contract: each way out by its law.
 use mathlib.Core.Path.{sym, ap, ◌∙◌}
 use native.Mathlib.Omega.{arith}
-use borrow.Author.Rules.{rules}
 use Rattle.rules.specs.Structs.{tech_by, cost_of}
 use Rattle.rules.proofs.Fitting.{entered_outside, entered_at}
 use Rattle.rules.proofs.Held.{on_grid_lem, in_array}

@@ -1,6 +1,5 @@
 -- `rules::step::leave_by` meets its contract, by what is owed.
 use mathlib.Core.Path.{sym, ap, ◌∙◌}
-use borrow.Author.Rules.{rules}
 use Rattle.rules.specs.Structs.{cost_of, overhead_cost}
 use Rattle.rules.proofs.Stepping.{owed_nothing, owed_lengthened, owed_penalised, owed_forbidden, owed_closed}
 use Rattle.rules.proofs.step.leave_by.Goals as goal

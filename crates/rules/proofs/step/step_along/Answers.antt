@@ -1,6 +1,5 @@
 -- `rules::step::step_along` meets its contract: against the step before it is not legal.
 use mathlib.Core.Path.{sym, ap, ◌∙◌}
-use borrow.Author.Rules.{rules}
 use Rattle.rules.specs.Structs.{grown_of}
 use Rattle.rules.proofs.Stepping.{along_back, along_to}
 use Rattle.rules.proofs.step.step_along.Goals as goal

@@ -1,6 +1,5 @@
 -- `rules::step::step_from` meets its contract.
 use mathlib.Core.Path.{sym, ◌∙◌}
-use borrow.Author.Rules.{rules}
 use Rattle.rules.specs.Structs.{tech_by}
 use Rattle.rules.proofs.Stepping.{step_shut, step_open}
 use Rattle.rules.proofs.step.step_from.Goals as goal

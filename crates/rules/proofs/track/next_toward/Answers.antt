@@ -1,6 +1,5 @@
 -- `rules::track::next_toward` meets its contract.
 use mathlib.Core.Path.{ap}
-use borrow.Author.Rules.{rules}
 use Rattle.rules.specs.Structs.{direction_of, next_on}
 use Rattle.rules.proofs.track.next_toward.Goals as goal
 

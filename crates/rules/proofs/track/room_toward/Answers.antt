@@ -1,5 +1,4 @@
 -- `rules::track::room_toward` meets its contract.
-use borrow.Author.Rules.{rules}
 use Rattle.rules.specs.Structs.{direction_of, room_in}
 use Rattle.rules.proofs.track.room_toward.Goals as goal
 

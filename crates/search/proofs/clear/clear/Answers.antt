@@ -1,6 +1,5 @@
 -- `search::clear::clear` meets its contract: what was touched was in the heap or in the list.
 use mathlib.Core.Path.{◌∙◌}
-use borrow.Author.Rules.{rules}
 use native.Mathlib.Omega.{arith}
 use Rattle.search.proofs.Laying.{laid_room}
 use Rattle.search.proofs.Clearing.{cleared_listed, cleared_bare, cleared_kept}

@@ -1,10 +1,7 @@
 -- `search::clear::clear_heap` meets its contract.
-use Prim.Native.Nat.{◌+◌, ◌-◌}
 use mathlib.Core.Path.{◌∙◌}
-use borrow.Author.Rules.{rules}
 use native.Mathlib.Omega.{arith}
-use Rattle.heap.specs.Heaps.{item_at}
-use Rattle.search.proofs.Clearing.{Clearing, clearing_begun, clearing_fits, clearing_on, heap_named, heap_read, heap_cleared}
+use Rattle.search.proofs.Clearing.{clearing_begun, clearing_fits, clearing_on, heap_named, heap_read, heap_cleared}
 use Rattle.search.proofs.clear.clear_heap.Goals as goal
 
 pub loop-at-init : goal.loop-at-init

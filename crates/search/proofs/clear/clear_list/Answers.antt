@@ -1,9 +1,6 @@
 -- `search::clear::clear_list` meets its contract.
-use Prim.Native.Nat.{◌+◌, ◌-◌}
-use borrow.Author.Rules.{rules}
 use native.Mathlib.Omega.{arith}
-use Rattle.search.specs.Lists.{list_at}
-use Rattle.search.proofs.Clearing.{Clearing, clearing_begun, clearing_fits, clearing_on, list_named, list_read, list_cleared}
+use Rattle.search.proofs.Clearing.{clearing_begun, clearing_fits, clearing_on, list_named, list_read, list_cleared}
 use Rattle.search.proofs.clear.clear_list.Goals as goal
 
 pub loop-at-init : goal.loop-at-init

@@ -1,10 +1,8 @@
 -- `search::clear::clear_list` meets its contract: so far so many settled places, and the words of the list,
 -- are zero.
 use Prim.Native.Nat.{◌+◌, ◌-◌}
-use borrow.Author.Rules.{rules}
-use native.Mathlib.Omega.{arith}
 use Rattle.search.specs.Lists.{list_at}
-use Rattle.search.proofs.Clearing.{Clearing, clearing_begun, clearing_fits, clearing_on, list_named, list_read, list_cleared}
+use Rattle.search.proofs.Clearing.{Clearing}
 use Rattle.search.proofs.clear.clear_list.Given as goal
 
 abbrev pub invariant-loop-at : goal.invariant-loop-at

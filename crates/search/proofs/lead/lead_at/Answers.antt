@@ -1,5 +1,4 @@
 -- `search::lead::lead_at` meets its contract: a slot's remainder is its word's.
-use borrow.Author.Rules.{rules}
 use native.Mathlib.Omega.{arith}
 use Rattle.heap.specs.Heaps.{slot_of}
 use Rattle.search.proofs.lead.lead_at.Goals as goal

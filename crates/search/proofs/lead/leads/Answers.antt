@@ -1,6 +1,5 @@
 -- `search::lead::leads` meets its contract: each way out by its law.
 use mathlib.Core.Path.{refl}
-use borrow.Author.Rules.{rules}
 use native.Mathlib.Omega.{arith}
 use Rattle.rules.proofs.Places.{code_below, places_small}
 use Rattle.search.proofs.Asking.{vertex_here, code_asked, code_made, code_here, next_left, next_small, settled_here, settled_short, settled_fields, Led, led, led_not}

@@ -1,12 +1,8 @@
 -- `search::lead::lowest_among` meets its contract.
-use Prim.Native.Nat.{◌-◌}
-use borrow.Author.Rules.{rules}
 use borrow.Author.Tests.{eqb-false}
-use mathlib.Core.Logic.{inl, inr}
 use mathlib.Core.Path.{sym, ◌∙◌}
 use native.Mathlib.Omega.{arith}
-use Rattle.rules.specs.Structs.{tech_by, seen_by, place_of}
-use Rattle.search.proofs.Leading.{Untried, untried_begun, untried_on, untried_skip, untried_here, untried_none}
+use Rattle.search.proofs.Leading.{untried_begun, untried_on, untried_skip, untried_here, untried_none}
 use Rattle.search.proofs.lead.lowest_among.Goals as goal
 use Rattle.search.proofs.lead.lowest_among.Goals.{then-has_move+else-leads, else-has_move}
 
@@ -33,7 +29,7 @@ loop-number-preserved c =
     let more = c.loop-number-test.true in
     let args = c.args in
     elim c.if-has_move.branch [
-        then-has_move+else-leads did ↦ untried_on _ _ _ _ _ _ _ inv more did.leads.ensures did.if-leads.false
+      | then-has_move+else-leads did ↦ untried_on _ _ _ _ _ _ _ inv more did.leads.ensures did.if-leads.false
       | else-has_move not ↦ untried_skip _ _ args.spots.now args.bounds.now args.work.now args.best _ inv args.moves c.requires.4 more
           (eqb-false _ 1 (sym c.has_move.ensures ∙ not.if-has_move.false))
     ]

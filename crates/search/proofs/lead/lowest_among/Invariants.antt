@@ -1,12 +1,7 @@
 -- `search::lead::lowest_among` meets its contract: so far no move leads on.
 use Prim.Native.Nat.{◌-◌}
-use borrow.Author.Rules.{rules}
-use borrow.Author.Tests.{eqb-false}
-use mathlib.Core.Logic.{inl, inr}
-use mathlib.Core.Path.{sym, ◌∙◌}
-use native.Mathlib.Omega.{arith}
 use Rattle.rules.specs.Structs.{tech_by, seen_by, place_of}
-use Rattle.search.proofs.Leading.{Untried, untried_begun, untried_on, untried_skip, untried_here, untried_none}
+use Rattle.search.proofs.Leading.{Untried}
 use Rattle.search.proofs.lead.lowest_among.Given as goal
 
 abbrev pub invariant-loop-number : goal.invariant-loop-number

@@ -1,5 +1,4 @@
 -- `search::moves::has_move` meets its contract.
-use borrow.Author.Rules.{rules}
 use mathlib.Core.Path.{refl}
 use native.Mathlib.Omega.{arith}
 use Rattle.search.proofs.Bits.{bit_some}

@@ -1,5 +1,4 @@
 -- `search::moves::with_move` meets its contract.
-use borrow.Author.Rules.{rules}
 use native.Mathlib.Omega.{arith}
 use Rattle.search.proofs.Bits.{bit_some, bit_fits, with_set, with_kept}
 use Rattle.search.proofs.moves.with_move.Goals as goal

@@ -1,5 +1,4 @@
 -- `search::places::code_of` meets its contract.
-use borrow.Author.Rules.{rules}
 use mathlib.Core.Path.{refl}
 use native.Mathlib.Omega.{arith}
 use Rattle.rules.specs.Places.{code_by}

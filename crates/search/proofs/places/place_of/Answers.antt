@@ -1,7 +1,6 @@
 -- `search::places::place_of` meets its contract.
 use mathlib.Core.Path.{refl}
 use Rattle.rules.specs.Places.{place_at}
-use borrow.Author.Rules.{rules}
 use Rattle.search.proofs.places.place_of.Goals as goal
 
 pub returns : goal.returns

@@ -3,7 +3,6 @@ use mathlib.Core.Path.{refl}
 use borrow.Author.Tests.{eq-eqb, ne_eqb}
 use Rattle.rules.specs.Places.{running_at}
 use Rattle.rules.specs.Structs.{direction_of, segment_of}
-use borrow.Author.Rules.{rules}
 use Rattle.search.proofs.places.running_at.Goals as goal
 
 pub returns-then-code-eq0 : goal.returns-then-code-eq0

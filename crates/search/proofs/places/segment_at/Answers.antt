@@ -2,7 +2,6 @@
 use mathlib.Core.Path.{sym, ◌∙◌}
 use Rattle.rules.specs.Structs.{direction_of, segment_of}
 use Rattle.search.proofs.Numbers.{at_fresh, at_running, at_paid, at_low, at_high}
-use borrow.Author.Rules.{rules}
 use Rattle.search.proofs.places.segment_at.Goals as goal
 
 pub returns-then-code-eq0 : goal.returns-then-code-eq0

@@ -1,7 +1,6 @@
 -- `search::places::segment_code` meets its contract.
 use mathlib.Core.Path.{refl}
 use native.Mathlib.Omega.{arith}
-use borrow.Author.Rules.{rules}
 use Rattle.rules.specs.Places.{segment_code}
 use Rattle.rules.specs.Structs.{segment_of}
 use Rattle.search.proofs.Numbers.{running_code, toward_code, toward_small, running_good}

@@ -1,7 +1,6 @@
 -- `search::reach::arrive` meets its contract.
 use mathlib.Core.Path.{refl}
 use native.Mathlib.Omega.{arith}
-use borrow.Author.Rules.{rules}
 use borrow.Author.Tests.{eq-eqb, ne_eqb}
 use Rattle.rules.proofs.Moves.{step_keeps, step_limits}
 use Rattle.rules.proofs.Places.{code_below}

@@ -1,6 +1,5 @@
 -- `search::reach::reach` meets its contract.
 use native.Mathlib.Omega.{arith}
-use borrow.Author.Rules.{rules}
 use Rattle.search.proofs.Reaching.{attempt_to, reach_not}
 use Rattle.search.proofs.reach.reach.Goals as goal
 

@@ -1,14 +1,8 @@
 -- `search::reach::reach_all` meets its contract: so many moves are tried.
 use Prim.Native.Nat.{◌-◌}
-use mathlib.Core.Path.{◌≡◌}
-use native.Mathlib.Omega.{arith}
-use borrow.Author.Rules.{rules}
 use Rattle.rules.specs.Structs.{tech_by, seen_by, place_of}
-use Rattle.bounds.proofs.Coordinates.{vertex_fields_lem}
 use Rattle.search.specs.Tries.{OwedFor}
-use Rattle.search.proofs.Asking.{largest_asked, item_good, item_code, item_bound, vertex_here, vertex_on}
-use Rattle.search.proofs.Turning.{Trying, trying_begun, trying_now, trying_small, trying_on, distance_by}
-use Rattle.search.proofs.Reaching.{no_goals_lem}
+use Rattle.search.proofs.Turning.{Trying}
 use Rattle.search.proofs.reach.reach_all.Given as goal
 
 abbrev pub invariant-loop-number : goal.invariant-loop-number

@@ -1,8 +1,6 @@
 -- `search::retrace::light` meets its contract.
-use Prim.Native.Nat.{◌-◌}
 use native.Mathlib.Omega.{arith}
-use Rattle.job.specs.Structs.{grid_of}
-use Rattle.search.proofs.Lighting.{Lighting, lighting_begun, lighting_on, lighting_done}
+use Rattle.search.proofs.Lighting.{lighting_begun, lighting_on, lighting_done}
 use Rattle.search.proofs.retrace.light.Goals as goal
 
 pub loop-number-init : goal.loop-number-init

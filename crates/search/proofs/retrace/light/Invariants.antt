@@ -1,8 +1,7 @@
 -- `search::retrace::light` meets its contract: so many moves are turned back.
 use Prim.Native.Nat.{◌-◌}
-use native.Mathlib.Omega.{arith}
 use Rattle.job.specs.Structs.{grid_of}
-use Rattle.search.proofs.Lighting.{Lighting, lighting_begun, lighting_on, lighting_done}
+use Rattle.search.proofs.Lighting.{Lighting}
 use Rattle.search.proofs.retrace.light.Given as goal
 
 abbrev pub invariant-loop-number : goal.invariant-loop-number

@@ -1,5 +1,4 @@
 -- `search::retrace::light_one` meets its contract.
-use borrow.Author.Rules.{rules}
 use native.Mathlib.Omega.{arith}
 use Rattle.search.proofs.Lighting.{none_entered, one_entered, one_lit, lit_stays, lit_long}
 use Rattle.search.proofs.retrace.light_one.Goals as goal

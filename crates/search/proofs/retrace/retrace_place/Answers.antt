@@ -1,5 +1,4 @@
 -- `search::retrace::retrace_place` meets its contract: each way out by its law.
-use borrow.Author.Rules.{rules}
 use mathlib.Core.Path.{ap}
 use Prim.Native.Nat.{◌<◌}
 use native.Mathlib.Omega.{arith}

@@ -1,10 +1,6 @@
 -- `search::seed::seed` meets its contract.
-use Prim.Native.Nat.{◌-◌, ◌%◌, ◌<◌}
-use mathlib.Core.Path.{◌≡◌}
-use borrow.Author.Rules.{rules}
 use native.Mathlib.Omega.{arith}
 use Rattle.rules.specs.Structs.{tech_by}
-use Rattle.search.specs.Spreads.{Seeding}
 use Rattle.search.proofs.Seeding.{seeding_begun, seeding_done, block_asked}
 use Rattle.search.proofs.seed.seed.Goals as goal
 

@@ -1,11 +1,8 @@
 -- `search::seed::seed` meets its contract: block by block.
 use Prim.Native.Nat.{◌-◌, ◌%◌, ◌<◌}
 use mathlib.Core.Path.{◌≡◌}
-use borrow.Author.Rules.{rules}
-use native.Mathlib.Omega.{arith}
 use Rattle.rules.specs.Structs.{tech_by}
 use Rattle.search.specs.Spreads.{Seeding}
-use Rattle.search.proofs.Seeding.{seeding_begun, seeding_done, block_asked}
 use Rattle.search.proofs.seed.seed.Given as goal
 
 abbrev pub invariant-loop-from : goal.invariant-loop-from

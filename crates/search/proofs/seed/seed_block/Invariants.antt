@@ -1,8 +1,7 @@
 -- `search::seed::seed_block` meets its contract.
 use Prim.Native.Nat.{◌-◌}
-use native.Mathlib.Omega.{arith}
 use Rattle.rules.specs.Structs.{tech_by}
-use Rattle.search.proofs.Seeding.{Blocked, blocked_begun, blocked_on, blocked_long, blocked_done, seeding_skip, not_some}
+use Rattle.search.proofs.Seeding.{Blocked}
 use Rattle.search.proofs.seed.seed_block.Given as goal
 
 abbrev pub invariant-loop-vertex : goal.invariant-loop-vertex

@@ -1,5 +1,4 @@
 -- `search::seed::seed_vertex` meets its contract.
-use borrow.Author.Rules.{rules}
 use mathlib.Core.Path.{refl}
 use native.Mathlib.Omega.{arith}
 use Rattle.rules.specs.Structs.{tech_by}
@@ -13,9 +12,9 @@ bounds-spots-vertex c = in_array c.requires.0 c.requires.2
 
 pub returns-then-spots-vertex-ne-ON_TREE : goal.returns-then-spots-vertex-ne-ON_TREE
 returns-then-spots-vertex-ne-ON_TREE c = record {
-      off = λ off. (refl, refl);
-      on = λ on. absurd (c.if-spots-vertex-ne-ON_TREE.true on);
-    }
+  off = λ off. (refl, refl);
+  on = λ on. absurd (c.if-spots-vertex-ne-ON_TREE.true on);
+}
 
 pub code_of-code-requires : goal.code_of-code-requires
 code_of-code-requires c = let pre = c.requires in start_asked pre.0 pre.2

@@ -1,8 +1,7 @@
 -- `search::seed::some_in` meets its contract.
-use Prim.Native.Nat.{◌-◌}
 use mathlib.Core.Logic.{inl, inr}
 use native.Mathlib.Omega.{arith}
-use Rattle.search.proofs.Seeding.{Flagged, flagged_begun, flagged_on, flagged_none}
+use Rattle.search.proofs.Seeding.{flagged_begun, flagged_on, flagged_none}
 use Rattle.search.proofs.seed.some_in.Goals as goal
 use Rattle.search.proofs.seed.some_in.Goals.{then-spots-from-ne0, else-spots-from-ne0}
 
@@ -22,9 +21,9 @@ pub loop-i-smaller : goal.loop-i-smaller
 loop-i-smaller c = omega (arith, c.loop-i-test.true)
 
 pub loop-i-preserved : goal.loop-i-preserved
-loop-i-preserved c = 
+loop-i-preserved c =
     elim c.if-spots-from-ne0.branch [
-        then-spots-from-ne0 w ↦ flagged_on c.loop-i.invariant c.loop-i-test.true (inl (w.if-spots-from-ne0.true, w.some-is)) (λ stays. absurd (w.if-spots-from-ne0.true stays))
+      | then-spots-from-ne0 w ↦ flagged_on c.loop-i.invariant c.loop-i-test.true (inl (w.if-spots-from-ne0.true, w.some-is)) (λ stays. absurd (w.if-spots-from-ne0.true stays))
       | else-spots-from-ne0 w ↦ flagged_on {Set = ⊥} c.loop-i.invariant c.loop-i-test.true (inr (w.if-spots-from-ne0.false, w.some-is)) (λ stays. stays)
     ]
 

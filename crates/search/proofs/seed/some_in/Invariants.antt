@@ -1,7 +1,6 @@
 -- `search::seed::some_in` meets its contract.
 use Prim.Native.Nat.{◌-◌}
-use native.Mathlib.Omega.{arith}
-use Rattle.search.proofs.Seeding.{Flagged, flagged_begun, flagged_on, flagged_none}
+use Rattle.search.proofs.Seeding.{Flagged}
 use Rattle.search.proofs.seed.some_in.Given as goal
 
 abbrev pub invariant-loop-i : goal.invariant-loop-i

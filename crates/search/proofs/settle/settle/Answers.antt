@@ -1,12 +1,7 @@
 -- `search::settle::settle` meets its contract.
-use Prim.Native.Nat.{◌+◌, ◌-◌}
-use borrow.Author.Rules.{rules}
 use native.Mathlib.Omega.{arith}
-use Rattle.metal.specs.Codes.{Beyond}
 use Rattle.metal.proofs.Slices.{beyond_refl, beyond_trans}
-use Rattle.rules.specs.Joins.{places}
-use Rattle.rules.specs.Structs.{tech_by, seen_by}
-use Rattle.search.specs.Spreads.{Between}
+use Rattle.rules.specs.Structs.{tech_by}
 use Rattle.search.proofs.Settling.{between-begun, between_on, ended_none, ended_best, least_asked, least_some, removed_room, removed_turn, removed_kept}
 use Rattle.search.proofs.settle.settle.Goals as goal
 

@@ -1,7 +1,6 @@
 -- `search::tries::ask_owed` meets its contract.
 use mathlib.Core.Path.{ap, ◌∙◌}
 use native.Mathlib.Omega.{arith}
-use borrow.Author.Rules.{rules}
 use Rattle.job.specs.declared.groups.Layer.{Layer}
 use Rattle.rules.specs.Structs.{tech_by, owed_cost}
 use Rattle.rules.proofs.Fitting.{layer_known}
@@ -16,9 +15,9 @@ use Rattle.search.proofs.tries.ask_owed.Goals as goal
 pub returns-then-owed-lt-UNASKED : goal.returns-then-owed-lt-UNASKED
 unfolding OwedFor
 returns-then-owed-lt-UNASKED c = record {
-      told = c.requires.2 c.if-owed-lt-UNASKED.true;
-      small = c.if-owed-lt-UNASKED.true;
-    }
+  told = c.requires.2 c.if-owed-lt-UNASKED.true;
+  small = c.if-owed-lt-UNASKED.true;
+}
 
 pub track_of-track-requires : goal.track_of-track-requires
 track_of-track-requires c =

@@ -1,6 +1,5 @@
 -- `search::tries::try_along` meets its contract.
 use mathlib.Core.Path.{refl, sym, ap, ◌∙◌}
-use borrow.Author.Rules.{rules}
 use Rattle.job.specs.declared.groups.Layer.{Layer}
 use Rattle.rules.specs.Structs.{grown_of}
 use Rattle.rules.proofs.Fitting.{layer_known}

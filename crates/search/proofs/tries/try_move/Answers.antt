@@ -1,6 +1,5 @@
 -- `search::tries::try_move` meets its contract: a step along the track, or a via.
 use mathlib.Core.Path.{sym, ap, subst, ◌∙◌}
-use borrow.Author.Rules.{rules}
 use Rattle.rules.specs.Structs.{kind_by, Via}
 use Rattle.rules.proofs.Entering.{via_told}
 use Rattle.search.proofs.Reaching.{attempt_told}

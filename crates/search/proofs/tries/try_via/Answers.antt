@@ -1,7 +1,6 @@
 -- `search::tries::try_via` meets its contract.
 use mathlib.Core.Path.{refl, sym, ◌∙◌}
 use native.Mathlib.Omega.{arith}
-use borrow.Author.Rules.{rules}
 use Rattle.rules.specs.Structs.{tech_by}
 use Rattle.rules.proofs.Prices.{entering_fits}
 use Rattle.rules.proofs.Entering.{priced_shut, priced_via, entry_parts}
