@@ -1,5 +1,4 @@
 -- `heap::lower` meets its contract: the item is new, or no better, or settled, or better.
-use borrow.Author.Rules.{rules}
 use native.Mathlib.Omega.{arith}
 use Rattle.heap.specs.Heaps.{key_of, slot_of}
 use Rattle.heap.proofs.Lowering.{new_lifted, new_lowered, better_lifted, better_lowered, same_lowered}

@@ -1,5 +1,4 @@
 -- `heap::remove_least` meets its contract: the last item goes to the front, or none is left.
-use borrow.Author.Rules.{rules}
 use native.Mathlib.Omega.{arith}
 use Rattle.heap.proofs.Removing.{settle_asked, last_asked, drop_asked, drop_removed, one_done, clear_asked}
 use Rattle.heap.proofs.remove_least.Goals as goal
@@ -25,7 +24,7 @@ returns c =
     let last = c.item_at-last.ensures in
     let leaving = c.settle.ensures in
     elim c.if-rest-gt0.branch [
-        then-rest-gt0 w ↦ rw w.work-is (drop_removed pre.0 (omega (arith, w.if-rest-gt0.true)) first last leaving w.key_at.ensures w.sift_down.ensures)
+      | then-rest-gt0 w ↦ rw w.work-is (drop_removed pre.0 (omega (arith, w.if-rest-gt0.true)) first last leaving w.key_at.ensures w.sift_down.ensures)
       | else-rest-gt0 w ↦ rw w.work-is (one_done pre.0 pre.1 (omega (arith, w.if-rest-gt0.false)) first leaving)
     ]
 

@@ -1,5 +1,4 @@
 -- `heap::cells::put` meets its contract: two stores, one after the other.
-use borrow.Author.Rules.{rules}
 use mathlib.Core.Path.{refl}
 use native.Mathlib.Omega.{arith}
 use lib.ListN.{length-set}

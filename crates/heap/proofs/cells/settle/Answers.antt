@@ -1,5 +1,4 @@
 -- `heap::cells::settle` meets its contract: the key stays, and the slot is past every seat.
-use borrow.Author.Rules.{rules}
 use mathlib.Core.Path.{refl}
 use native.Mathlib.Omega.{arith}
 use Rattle.heap.specs.Heaps.{key_of, word_of}

@@ -1,5 +1,4 @@
 -- `heap::cells::shift` meets its contract: the item at a seat is put at another, with its own key.
-use borrow.Author.Rules.{rules}
 use Rattle.heap.proofs.Tests.{placed_from}
 use Rattle.heap.proofs.cells.shift.Goals as goal
 

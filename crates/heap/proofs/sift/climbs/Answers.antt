@@ -1,5 +1,4 @@
 -- `heap::sift::climbs` meets its contract: nothing is above the front; elsewhere the test tells.
-use borrow.Author.Rules.{rules}
 use native.Mathlib.Omega.{arith}
 use Rattle.heap.proofs.Tests.{climbs_front, climbs_test}
 use Rattle.heap.proofs.sift.climbs.Goals as goal

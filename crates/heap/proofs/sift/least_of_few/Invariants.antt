@@ -1,12 +1,7 @@
 -- `heap::sift::least_of_few` meets its contract: of the seats so far the one with the least key. The seats
 -- left are fewer.
-use borrow.Author.Rules.{rules}
 use Prim.Native.Nat.{◌-◌, ◌≤◌}
-use mathlib.Core.Logic.{⊎_elim}
-use mathlib.Core.Path.{refl}
-use native.Mathlib.Omega.{arith}
 use Rattle.heap.specs.Sifts.{Lowest}
-use Rattle.heap.proofs.Tests.{keyed_asked, lowest_one, lowest_left, lowest_right}
 use Rattle.heap.proofs.sift.least_of_few.Given as goal
 
 abbrev pub invariant-loop-seat : goal.invariant-loop-seat

@@ -1,5 +1,4 @@
 -- `heap::sift::least_of_four` meets its contract: the lesser of the two that each pair leaves.
-use borrow.Author.Rules.{rules}
 use mathlib.Core.Path.{refl}
 use native.Mathlib.Omega.{arith}
 use lib.Dec.{ltb}

@@ -1,5 +1,4 @@
 -- `heap::sift::lesser_child` meets its contract: the seats below end with the heap, or there are four.
-use borrow.Author.Rules.{rules}
 use native.Mathlib.Nat.{le_refl}
 use native.Mathlib.Omega.{arith}
 use Rattle.heap.proofs.Tests.{held_keyed, lowest_least}

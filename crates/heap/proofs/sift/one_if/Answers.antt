@@ -1,5 +1,4 @@
 -- `heap::sift::one_if` meets its contract: by cases.
-use borrow.Author.Rules.{rules}
 use Rattle.heap.proofs.Tests.{one_is}
 use Rattle.heap.proofs.sift.one_if.Goals as goal
 

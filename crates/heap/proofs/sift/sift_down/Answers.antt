@@ -1,10 +1,8 @@
 -- `heap::sift::sift_down` meets its contract.
-use Prim.Native.Nat.{◌-◌}
 use native.Mathlib.Omega.{arith}
-use Rattle.heap.specs.Sifts.{placed}
 use mathlib.Core.Path.{◌∙◌}
 use Rattle.heap.proofs.Words.{placed_long}
-use Rattle.heap.proofs.Sifting.{Falling, falling_begun, falling_held, falling_asked, falling_on, falling_put, falling_done}
+use Rattle.heap.proofs.Sifting.{falling_begun, falling_held, falling_asked, falling_on, falling_put, falling_done}
 use Rattle.heap.proofs.sift.sift_down.Goals as goal
 
 pub loop-work-init : goal.loop-work-init

@@ -1,9 +1,8 @@
 -- `heap::sift::sift_up` meets its contract.
 use native.Mathlib.Omega.{arith}
-use Rattle.heap.specs.Sifts.{placed}
 use mathlib.Core.Path.{◌∙◌}
 use Rattle.heap.proofs.Words.{placed_long}
-use Rattle.heap.proofs.Sifting.{Climbing, climbing_begun, climbing_held, climbing_asked, climbing_on, climbing_put, climbing_done}
+use Rattle.heap.proofs.Sifting.{climbing_begun, climbing_held, climbing_asked, climbing_on, climbing_put, climbing_done}
 use Rattle.heap.proofs.sift.sift_up.Goals as goal
 
 pub loop-up-init : goal.loop-up-init

@@ -1,10 +1,7 @@
 -- `heap::sift::sift_up` meets its contract: with the item in the hole the order holds everywhere but there.
 -- The seat falls.
-use native.Mathlib.Omega.{arith}
 use Rattle.heap.specs.Sifts.{placed}
-use mathlib.Core.Path.{◌∙◌}
-use Rattle.heap.proofs.Words.{placed_long}
-use Rattle.heap.proofs.Sifting.{Climbing, climbing_begun, climbing_held, climbing_asked, climbing_on, climbing_put, climbing_done}
+use Rattle.heap.proofs.Sifting.{Climbing}
 use Rattle.heap.proofs.sift.sift_up.Given as goal
 
 abbrev pub invariant-loop-up : goal.invariant-loop-up

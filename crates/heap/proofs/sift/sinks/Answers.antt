@@ -1,5 +1,4 @@
 -- `heap::sift::sinks` meets its contract: nothing is below; elsewhere the test tells.
-use borrow.Author.Rules.{rules}
 use native.Mathlib.Omega.{arith}
 use Rattle.heap.proofs.Tests.{sinks_end, sinks_test}
 use Rattle.heap.proofs.sift.sinks.Goals as goal

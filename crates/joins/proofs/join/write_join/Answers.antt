@@ -1,6 +1,5 @@
 -- `joins::join::write_join` meets its contract.
 use native.Mathlib.Omega.{arith}
-use borrow.Author.Rules.{rules}
 use Rattle.rules.specs.Structs.{tech_by}
 use Rattle.joins.proofs.Joining.{record_put, start_led, written_none, written_first}
 use Rattle.joins.proofs.join.write_join.Goals as goal

@@ -1,6 +1,5 @@
 -- `joins::next::next_join` meets its contract.
 use Prim.Native.Nat.{ℕ}
-use borrow.Author.Rules.{rules}
 use lib.ListN.{length-replicate}
 use Rattle.rules.specs.Structs.{tech_by}
 use Rattle.metal.proofs.Slices.{beyond_trans}

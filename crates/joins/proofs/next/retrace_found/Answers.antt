@@ -1,5 +1,4 @@
 -- `joins::next::retrace_found` meets its contract.
-use borrow.Author.Rules.{rules}
 use native.Mathlib.Omega.{arith}
 use Rattle.metal.proofs.Slices.{beyond_refl}
 use Rattle.joins.proofs.Records.{none_found, laid_end}

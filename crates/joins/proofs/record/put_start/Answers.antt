@@ -1,7 +1,6 @@
 -- `joins::record::put_start` meets its contract: its fields stand one after the other.
 use mathlib.Core.Path.{ap, ◌∙◌}
 use native.Mathlib.Omega.{arith}
-use borrow.Author.Rules.{rules}
 use Rattle.bits.specs.Puts.{put_bits}
 use Rattle.joins.proofs.Putting.{put_next, put_last, start_bits}
 use Rattle.joins.proofs.record.put_start.Goals as goal

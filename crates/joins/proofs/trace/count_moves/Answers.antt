@@ -1,16 +1,11 @@
 -- `joins::trace::count_moves` meets its contract.
 use mathlib.Core.Path.{refl}
-use borrow.Author.Rules.{rules}
-use Prim.Native.Nat.{ℕ, ◌-◌}
-use mathlib.Core.List.{List}
 use native.Mathlib.Omega.{arith}
 use Rattle.rules.specs.Walks.{start_at}
-use Rattle.rules.specs.Joins.{places}
-use Rattle.rules.specs.Structs.{segment_of, tech_by, seen_by, place_of}
+use Rattle.rules.specs.Structs.{segment_of, tech_by}
 use Rattle.rules.proofs.Places.{places_small}
-use Rattle.search.specs.Charts.{Charted}
 use Rattle.search.proofs.Asking.{vertex_here, vertex_on, segment_short, code_asked, code_here}
-use Rattle.joins.proofs.Tracing.{Counting, counting_begun, counting_room, counting_done}
+use Rattle.joins.proofs.Tracing.{counting_begun, counting_room, counting_done}
 use Rattle.joins.proofs.Followed.{goes_on_lem, ends_here, lead_read, followed_made, followed_legal}
 use Rattle.joins.proofs.trace.count_moves.Goals as goal
 

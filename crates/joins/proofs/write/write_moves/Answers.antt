@@ -1,14 +1,10 @@
 -- `joins::write::write_moves` meets its contract.
 use mathlib.Core.Path.{refl}
-use Prim.Native.Nat.{ℕ}
-use mathlib.Core.List.{List}
 use native.Mathlib.Omega.{arith}
-use borrow.Author.Rules.{rules}
-use Rattle.rules.specs.Structs.{tech_by, seen_by}
-use Rattle.search.specs.Charts.{Charted}
+use Rattle.rules.specs.Structs.{tech_by}
 use Rattle.search.proofs.Asking.{vertex_on, segment_short, code_asked, code_here}
 use Rattle.joins.proofs.Followed.{lead_read}
-use Rattle.joins.proofs.Writing.{Writing, begun_at, writing_begun, writing_number, writing_legal, writing_fits, writing_on, writing_done}
+use Rattle.joins.proofs.Writing.{begun_at, writing_begun, writing_number, writing_legal, writing_fits, writing_on, writing_done}
 use Rattle.joins.proofs.write.write_moves.Goals as goal
 
 pub loop-left-init : goal.loop-left-init

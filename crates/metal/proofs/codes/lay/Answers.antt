@@ -1,5 +1,4 @@
 -- `metal::codes::lay` meets its contract.
-use borrow.Author.Rules.{rules}
 use Rattle.metal.proofs.Laid.{laid_bare, laid_other, map_own}
 use Rattle.metal.proofs.codes.lay.Goals as goal
 

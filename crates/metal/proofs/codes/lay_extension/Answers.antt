@@ -2,7 +2,6 @@
 use Prim.Native.Nat.{ℕ, ◌≤◌, ◌<◌}
 use mathlib.Core.Path.{◌≡◌, refl, sym, ap, ◌∙◌}
 use mathlib.Core.List.{List}
-use borrow.Author.Rules.{rules}
 use Rattle.job.specs.Grid.{Grid, vertices}
 use Rattle.job.specs.Structs.{Sized, grid_of, vertex_of, vertex_struct}
 use Rattle.job.specs.declared.grid.Grid.{Grid as GridStruct}

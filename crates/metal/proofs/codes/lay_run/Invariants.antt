@@ -1,20 +1,14 @@
 -- `metal::codes::lay_run` meets its contract: so many vertices are laid, and laying those that are left
 -- beyond the last gives all.
-use Prim.Native.Nat.{ℕ, ◌-◌, ◌≤◌, ◌<◌, min}
-use mathlib.Core.Path.{◌≡◌, refl, ap, ◌∙◌}
-use native.Mathlib.Omega.{arith}
-use borrow.Author.Rules.{rules}
+use Prim.Native.Nat.{ℕ, ◌-◌, ◌≤◌, ◌<◌}
+use mathlib.Core.Path.{◌≡◌}
 use Rattle.job.specs.Grid.{vertices, stride_of}
-use Rattle.job.specs.Structs.{Small, grid_of}
+use Rattle.job.specs.Structs.{grid_of}
 use Rattle.job.specs.declared.grid.Grid.{Grid as GridStruct}
 use Rattle.rules.specs.Tracks.{layer_of}
-use Rattle.rules.specs.Structs.{direction_of, room_toward, EndOn}
+use Rattle.rules.specs.Structs.{direction_of, room_toward}
 use Rattle.rules.specs.declared.segment.Direction.{Direction}
-use Rattle.rules.specs.declared.end.End.{End}
-use Rattle.rules.proofs.Fitting.{stride_fits_lem}
-use Rattle.metal.specs.Codes.{beyond}
-use Rattle.metal.proofs.Runs.{beyond_room}
-use Rattle.metal.proofs.Turns.{Running, running_begun, running_next, running_on, running_done}
+use Rattle.metal.proofs.Turns.{Running}
 use Rattle.metal.proofs.codes.lay_run.Given as goal
 
 -- a fact of every grid on which the end lies with room for so many (the loop no longer holds the end)

@@ -1,7 +1,5 @@
 -- `metal::codes::put_obstacles` meets its contract.
-use Prim.Native.Nat.{◌-◌}
-use borrow.Author.Rules.{rules}
-use Rattle.metal.proofs.Turns.{Putting, putting_begun, putting_on, putting_past, putting_done}
+use Rattle.metal.proofs.Turns.{putting_begun, putting_on, putting_past, putting_done}
 use Rattle.metal.proofs.codes.put_obstacles.Goals as goal
 use Rattle.metal.proofs.codes.put_obstacles.Goals.{then-occupants-v-eq1, else-occupants-v-eq1}
 
@@ -13,7 +11,7 @@ loop-v-preserved c =
     let so_far = c.loop-v.invariant in
     let more = c.loop-v-test.true in
     elim c.if-occupants-v-eq1.branch [
-        then-occupants-v-eq1 w ↦ rw w.map-is (putting_on so_far more w.if-occupants-v-eq1.true)
+      | then-occupants-v-eq1 w ↦ rw w.map-is (putting_on so_far more w.if-occupants-v-eq1.true)
       | else-occupants-v-eq1 w ↦ rw w.map-is (putting_past so_far more w.if-occupants-v-eq1.false)
     ]
 

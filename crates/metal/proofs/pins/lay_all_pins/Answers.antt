@@ -1,9 +1,8 @@
 -- `metal::pins::lay_all_pins` meets its contract.
 use mathlib.Core.Path.{refl}
 use native.Mathlib.Omega.{arith}
-use Rattle.job.specs.Structs.{grid_of}
 use Rattle.metal.proofs.Nets.{job_fits}
-use Rattle.metal.proofs.First.{PinsLaid, pins_begun, number_below, pins_here, pins_asked, pins_on, pins_done}
+use Rattle.metal.proofs.First.{pins_begun, number_below, pins_here, pins_asked, pins_on, pins_done}
 use Rattle.metal.proofs.pins.lay_all_pins.Goals as goal
 
 pub loop-left-init : goal.loop-left-init
@@ -37,6 +36,6 @@ shape_of-map c = c.loop-left.invariant.kept.size
 
 pub returns : goal.returns
 returns c = record {
-      kept = c.loop-left.invariant.kept;
-      codes = pins_done c.loop-left.invariant c.loop-left-test.false;
-    }
+  kept = c.loop-left.invariant.kept;
+  codes = pins_done c.loop-left.invariant c.loop-left-test.false;
+}

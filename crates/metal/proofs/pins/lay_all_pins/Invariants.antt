@@ -1,9 +1,6 @@
 -- `metal::pins::lay_all_pins` meets its contract: the pins of the nets before are laid, over what was found.
-use mathlib.Core.Path.{refl}
-use native.Mathlib.Omega.{arith}
 use Rattle.job.specs.Structs.{grid_of}
-use Rattle.metal.proofs.Nets.{job_fits}
-use Rattle.metal.proofs.First.{PinsLaid, pins_begun, number_below, pins_here, pins_asked, pins_on, pins_done}
+use Rattle.metal.proofs.First.{PinsLaid}
 use Rattle.metal.proofs.pins.lay_all_pins.Given as goal
 
 abbrev pub invariant-loop-left : goal.invariant-loop-left

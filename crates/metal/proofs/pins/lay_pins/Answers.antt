@@ -1,7 +1,6 @@
 -- `metal::pins::lay_pins` meets its contract.
-use Prim.Native.Nat.{◌-◌}
 use native.Mathlib.Omega.{arith}
-use Rattle.metal.proofs.Turns.{Laying, laying_begun, laying_below, laying_on, laying_done}
+use Rattle.metal.proofs.Turns.{laying_begun, laying_below, laying_on, laying_done}
 use Rattle.metal.proofs.pins.lay_pins.Goals as goal
 
 pub loop-pin-init : goal.loop-pin-init

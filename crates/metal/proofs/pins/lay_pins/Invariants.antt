@@ -1,7 +1,6 @@
 -- `metal::pins::lay_pins` meets its contract: so many pins are laid, and laying the rest gives all.
 use Prim.Native.Nat.{◌-◌}
-use native.Mathlib.Omega.{arith}
-use Rattle.metal.proofs.Turns.{Laying, laying_begun, laying_below, laying_on, laying_done}
+use Rattle.metal.proofs.Turns.{Laying}
 use Rattle.metal.proofs.pins.lay_pins.Given as goal
 
 abbrev pub invariant-loop-pin : goal.invariant-loop-pin

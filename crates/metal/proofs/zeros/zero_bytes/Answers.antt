@@ -1,7 +1,5 @@
 -- `metal::zeros::zero_bytes` meets its contract.
-use Prim.Native.Nat.{◌-◌}
-use borrow.Author.Rules.{rules}
-use Rattle.metal.proofs.Turns.{Zeroing, zeroing_begun, zeroing_on, zeroing_done}
+use Rattle.metal.proofs.Turns.{zeroing_begun, zeroing_on, zeroing_done}
 use Rattle.metal.proofs.zeros.zero_bytes.Goals as goal
 
 pub loop-byte-init : goal.loop-byte-init

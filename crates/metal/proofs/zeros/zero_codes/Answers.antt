@@ -1,7 +1,5 @@
 -- `metal::zeros::zero_codes` meets its contract.
-use Prim.Native.Nat.{◌-◌}
-use borrow.Author.Rules.{rules}
-use Rattle.metal.proofs.Turns.{Zeroing, zeroing_begun, zeroing_on, zeroing_done}
+use Rattle.metal.proofs.Turns.{zeroing_begun, zeroing_on, zeroing_done}
 use Rattle.metal.proofs.zeros.zero_codes.Goals as goal
 
 pub loop-v-init : goal.loop-v-init

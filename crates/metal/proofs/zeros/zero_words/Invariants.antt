@@ -1,7 +1,6 @@
 -- `metal::zeros::zero_words` meets its contract: so far so many are zero.
 use Prim.Native.Nat.{◌-◌}
-use borrow.Author.Rules.{rules}
-use Rattle.metal.proofs.Turns.{Zeroing, zeroing_begun, zeroing_on, zeroing_done}
+use Rattle.metal.proofs.Turns.{Zeroing}
 use Rattle.metal.proofs.zeros.zero_words.Given as goal
 
 abbrev pub invariant-loop-word : goal.invariant-loop-word

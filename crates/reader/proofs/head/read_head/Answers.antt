@@ -1,5 +1,4 @@
 -- `reader::head::read_head` meets its contract: what the group of the head holds decides each rule.
-use borrow.Author.Rules.{rules}
 use borrow.Author.Tests.{eq-eqb, ne_eqb, le-leb, lt-leb}
 use mathlib.Core.Path.{◌≡◌, sym, ap, ◌∙◌}
 use Rattle.bits.specs.Bits.{bits_of}

@@ -1,9 +1,8 @@
 -- `reader::layers::largest_least` meets its contract.
-use Prim.Native.Nat.{◌-◌, ◌<◌, ◌≤◌, max}
-use mathlib.Core.Path.{◌≡◌, sym, ◌∙◌}
+use Prim.Native.Nat.{◌<◌, ◌≤◌}
+use mathlib.Core.Path.{sym, ◌∙◌}
 use native.Mathlib.Omega.{arith}
-use lib.ListN.{length, drop}
-use Rattle.reader.specs.Structs.{largest_in}
+use lib.ListN.{length}
 use Rattle.reader.proofs.Lines.{largest_turn, largest_done}
 use Rattle.reader.proofs.layers.largest_least.Goals as goal
 use Rattle.reader.proofs.layers.largest_least.Goals.{then-largest-least, else-largest-least}
@@ -36,7 +35,7 @@ loop-layer-preserved c =
     let more : here.layer < length least = omega (arith, c.requires, c.loop-layer-test.true) in
     let turn = largest_turn least here.layer here.largest more in
     elim c.if-largest-least.branch [
-        then-largest-least w ↦ omega (arith, turn, here.invariant, w.if-largest-least.true, w.largest-is)
+      | then-largest-least w ↦ omega (arith, turn, here.invariant, w.if-largest-least.true, w.largest-is)
       | else-largest-least w ↦ omega (arith, turn, here.invariant, w.if-largest-least.false, w.largest-is)
     ]
 

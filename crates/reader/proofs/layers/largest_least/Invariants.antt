@@ -1,12 +1,9 @@
 -- `reader::layers::largest_least` meets its contract: the largest so far and the largest of what is left make
 -- the largest of all.
-use Prim.Native.Nat.{◌-◌, ◌<◌, ◌≤◌, max}
-use mathlib.Core.Path.{◌≡◌, sym, ◌∙◌}
-use mathlib.Core.Logic.{⊎_elim}
-use native.Mathlib.Omega.{arith}
-use lib.ListN.{length, drop}
+use Prim.Native.Nat.{◌-◌, max}
+use mathlib.Core.Path.{◌≡◌}
+use lib.ListN.{drop}
 use Rattle.reader.specs.Structs.{largest_in}
-use Rattle.reader.proofs.Lines.{largest_turn, largest_done}
 use Rattle.reader.proofs.layers.largest_least.Given as goal
 
 abbrev pub invariant-loop-layer : goal.invariant-loop-layer

@@ -1,7 +1,5 @@
 -- `reader::layers::read_layer` meets its contract: each way out is one of the line's rules.
 use mathlib.Core.Path.{sym, ◌∙◌}
-use borrow.Author.Rules.{rules}
-use borrow.Author.Tests.{not-true, not-false}
 use Rattle.reader.proofs.Lines.{layer_cut, line_rules}
 use Rattle.reader.proofs.layers.read_layer.Goals as goal
 

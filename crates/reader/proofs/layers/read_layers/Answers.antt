@@ -1,10 +1,7 @@
 -- `reader::layers::read_layers` meets its contract.
-use Prim.Native.Nat.{◌-◌}
 use mathlib.Core.Path.{sym, ◌∙◌}
-use borrow.Author.Rules.{rules}
 use native.Mathlib.Omega.{arith}
-use Rattle.bits.specs.Bits.{bits_of}
-use Rattle.reader.proofs.Lines.{LinesRead, lines_none, lines_refused, lines_next, lines_all}
+use Rattle.reader.proofs.Lines.{lines_none, lines_refused, lines_next, lines_all}
 use Rattle.reader.proofs.layers.read_layers.Goals as goal
 
 pub loop-layer-init : goal.loop-layer-init

@@ -1,11 +1,8 @@
 -- `reader::layers::read_layers` meets its contract: the lines read so far, ahead of those still to be read,
 -- are what reading all gives.
 use Prim.Native.Nat.{◌-◌}
-use mathlib.Core.Path.{sym, ◌∙◌}
-use borrow.Author.Rules.{rules}
-use native.Mathlib.Omega.{arith}
 use Rattle.bits.specs.Bits.{bits_of}
-use Rattle.reader.proofs.Lines.{LinesRead, lines_none, lines_refused, lines_next, lines_all}
+use Rattle.reader.proofs.Lines.{LinesRead}
 use Rattle.reader.proofs.layers.read_layers.Given as goal
 
 abbrev pub invariant-loop-layer : goal.invariant-loop-layer

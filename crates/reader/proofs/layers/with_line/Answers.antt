@@ -1,6 +1,5 @@
 -- `reader::layers::with_line` meets its contract.
 use mathlib.Core.Path.{refl}
-use borrow.Author.Rules.{rules}
 use Rattle.reader.specs.Structs.{with_line}
 use Rattle.reader.proofs.layers.with_line.Goals as goal
 

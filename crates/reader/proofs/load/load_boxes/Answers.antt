@@ -1,8 +1,6 @@
 -- `reader::load::load_boxes` meets its contract.
-use borrow.Author.Rules.{rules}
 use native.Mathlib.Omega.{arith}
-use Rattle.bits.specs.Bits.{bits_of}
-use Rattle.reader.proofs.LoadTurns.{box_uncut, box_told, BoxesToLoad, boxes_begin, boxes_turn, boxes_end}
+use Rattle.reader.proofs.LoadTurns.{box_uncut, box_told, boxes_begin, boxes_turn, boxes_end}
 use Rattle.reader.proofs.load.load_boxes.Goals as goal
 
 pub loop-left-init : goal.loop-left-init

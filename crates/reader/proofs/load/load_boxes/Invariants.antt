@@ -1,9 +1,7 @@
 -- `reader::load::load_boxes` meets its contract. The loop's invariant: the boxes stored so far, then the
 -- numbers of those that are left, are all boxes. The measure is the number of boxes that are left.
-use borrow.Author.Rules.{rules}
-use native.Mathlib.Omega.{arith}
 use Rattle.bits.specs.Bits.{bits_of}
-use Rattle.reader.proofs.LoadTurns.{box_uncut, box_told, BoxesToLoad, boxes_begin, boxes_turn, boxes_end}
+use Rattle.reader.proofs.LoadTurns.{BoxesToLoad}
 use Rattle.reader.proofs.load.load_boxes.Given as goal
 
 abbrev pub invariant-loop-left : goal.invariant-loop-left

@@ -1,6 +1,5 @@
 -- `reader::load::load_net` meets its contract: the net's head stands at the bit, and the bits of all that it
 -- counts are there.
-use borrow.Author.Rules.{rules}
 use mathlib.Core.Path.{sym}
 use native.Mathlib.Omega.{arith}
 use Rattle.reader.specs.Loading.{pins_loaded, boxes_loaded}

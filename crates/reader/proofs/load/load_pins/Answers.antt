@@ -1,12 +1,10 @@
 -- `reader::load::load_pins` meets its contract.
-use borrow.Author.Rules.{rules}
-use Prim.Native.Nat.{◌-◌}
 use mathlib.Core.Path.{◌≡◌}
 use native.Mathlib.Omega.{arith}
 use Rattle.bits.specs.Bits.{bits_of}
-use Rattle.job.specs.Structs.{grid_of, vertex_struct}
+use Rattle.job.specs.Structs.{vertex_struct}
 use Rattle.job.specs.Reading.{vertex_at}
-use Rattle.reader.proofs.LoadTurns.{vertex_uncut, vertex_told, vertex_fields_lem, PinsToLoad, pins_begin, pins_turn, pins_end}
+use Rattle.reader.proofs.LoadTurns.{vertex_uncut, vertex_told, vertex_fields_lem, pins_begin, pins_turn, pins_end}
 use Rattle.reader.proofs.load.load_pins.Goals as goal
 
 pub loop-pin-init : goal.loop-pin-init

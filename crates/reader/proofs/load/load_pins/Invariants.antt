@@ -1,13 +1,9 @@
 -- `reader::load::load_pins` meets its contract. The loop's invariant: the pins stored so far, then the
 -- numbers of those that are left, are all pins. The measure is the number of pins that are left.
-use borrow.Author.Rules.{rules}
 use Prim.Native.Nat.{◌-◌}
-use mathlib.Core.Path.{◌≡◌}
-use native.Mathlib.Omega.{arith}
 use Rattle.bits.specs.Bits.{bits_of}
-use Rattle.job.specs.Structs.{grid_of, vertex_struct}
-use Rattle.job.specs.Reading.{vertex_at}
-use Rattle.reader.proofs.LoadTurns.{vertex_uncut, vertex_told, vertex_fields_lem, PinsToLoad, pins_begin, pins_turn, pins_end}
+use Rattle.job.specs.Structs.{grid_of}
+use Rattle.reader.proofs.LoadTurns.{PinsToLoad}
 use Rattle.reader.proofs.load.load_pins.Given as goal
 
 abbrev pub invariant-loop-pin : goal.invariant-loop-pin

@@ -1,5 +1,4 @@
 -- `reader::load::store_box` meets its contract: six positions one after the other, each stored once.
-use borrow.Author.Rules.{rules}
 use Prim.Native.Nat.{suc, ◌+◌}
 use mathlib.Core.Path.{◌≡◌}
 use native.Mathlib.Numerals.{add-one}

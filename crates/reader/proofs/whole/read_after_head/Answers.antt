@@ -1,7 +1,6 @@
 -- `reader::whole::read_after_head` meets its contract: a layer line is refused, something after the lines is,
 -- or the job is good.
 use mathlib.Core.Path.{sym, ◌∙◌}
-use borrow.Author.Rules.{rules}
 use Rattle.occupants.proofs.Covering.{bare_occupants}
 use Rattle.reader.proofs.AfterHead.{told_refused_job, lines_refused_job, rest_refused_job, rest_good_job}
 use Rattle.reader.proofs.whole.read_after_head.Goals as goal

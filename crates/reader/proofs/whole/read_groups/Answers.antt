@@ -2,7 +2,6 @@
 -- read.
 use mathlib.Core.Path.{sym, ◌∙◌}
 use native.Mathlib.Omega.{arith}
-use borrow.Author.Rules.{rules}
 use Rattle.job.specs.Reading.{obstacles_at}
 use Rattle.occupants.proofs.Answers.{ends_at}
 use Rattle.reader.proofs.WholeTurns.{obstacles_end, nets_end, groups_blocked, groups_stopped, groups_through}

@@ -1,7 +1,6 @@
 -- `reader::whole::read_job` meets its contract: the bytes are too many, the head is refused, or what follows
 -- it decides.
 use mathlib.Core.Path.{sym, ◌∙◌}
-use borrow.Author.Rules.{rules}
 use Rattle.reader.proofs.AfterHead.{told_refused_job}
 use Rattle.reader.proofs.Heads.{job_too_long, job_head_refused, job_past_head}
 use Rattle.reader.proofs.whole.read_job.Goals as goal

@@ -1,5 +1,4 @@
 -- `reader::whole::refused_job` meets its contract.
-use borrow.Author.Rules.{rules}
 use Rattle.reader.specs.Structs.{job_read, no_head}
 use Rattle.reader.proofs.whole.refused_job.Goals as goal
 

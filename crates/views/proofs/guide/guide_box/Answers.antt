@@ -1,12 +1,9 @@
 -- `views::guide::guide_box` meets its contract.
-use Prim.Native.Nat.{◌-◌}
 use mathlib.Core.Path.{sym, ◌∙◌}
 use native.Mathlib.Omega.{arith}
-use Rattle.job.specs.Structs.{grid_of, box_of}
-use Rattle.rules.specs.Views.{in_box}
 use Rattle.rules.proofs.Vertices.{vertex_below}
 use Rattle.views.specs.Sight.{in_layer}
-use Rattle.views.proofs.Axes.{FoundTo, found_begin, found_turn, found_none, found_end}
+use Rattle.views.proofs.Axes.{found_begin, found_turn, found_none, found_end}
 use Rattle.views.proofs.Rows.{layer_outside}
 use Rattle.views.proofs.guide.guide_box.Goals as goal
 use Rattle.views.proofs.guide.guide_box.Goals.{then-on_layers, else-on_layers}
@@ -37,7 +34,7 @@ loop-layer-preserved c =
     let so_far = c.loop-layer.invariant in
     let asked = c.on_layers.ensures in
     elim c.if-on_layers.branch [
-        then-on_layers w ↦ rw w.seen-is (found_turn _ _ _ so_far w.guide_layer.auto.seen w.guide_layer.ensures)
+      | then-on_layers w ↦ rw w.seen-is (found_turn _ _ _ so_far w.guide_layer.auto.seen w.guide_layer.ensures)
       | else-on_layers w ↦ rw w.seen-is (found_none _ _ _ so_far (layer_outside _ _ (sym asked ∙ w.if-on_layers.false)))
     ]
 

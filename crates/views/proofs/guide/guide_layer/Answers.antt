@@ -1,11 +1,9 @@
 -- `views::guide::guide_layer` meets its contract.
-use Prim.Native.Nat.{◌-◌}
 use mathlib.Core.Path.{sym, ◌∙◌}
 use native.Mathlib.Omega.{arith}
-use Rattle.job.specs.Structs.{grid_of, box_of}
 use Rattle.rules.proofs.Vertices.{vertex_below}
-use Rattle.views.specs.Sight.{in_row, in_layer}
-use Rattle.views.proofs.Axes.{FoundTo, found_begin, found_turn, found_none, found_end}
+use Rattle.views.specs.Sight.{in_row}
+use Rattle.views.proofs.Axes.{found_begin, found_turn, found_none, found_end}
 use Rattle.views.proofs.Rows.{row_outside}
 use Rattle.views.proofs.guide.guide_layer.Goals as goal
 use Rattle.views.proofs.guide.guide_layer.Goals.{then-on_rows, else-on_rows}
@@ -36,7 +34,7 @@ loop-row-preserved c =
     let so_far = c.loop-row.invariant in
     let asked = c.on_rows.ensures in
     elim c.if-on_rows.branch [
-        then-on_rows w ↦ rw w.seen-is (found_turn _ _ _ so_far w.guide_row.auto.seen w.guide_row.ensures)
+      | then-on_rows w ↦ rw w.seen-is (found_turn _ _ _ so_far w.guide_row.auto.seen w.guide_row.ensures)
       | else-on_rows w ↦ rw w.seen-is (found_none _ _ _ so_far (row_outside _ _ _ (sym asked ∙ w.if-on_rows.false)))
     ]
 

@@ -1,13 +1,8 @@
 -- `views::guide::guide_layer` meets its contract: the vertices of the rows below are found.
 use Prim.Native.Nat.{◌-◌}
-use mathlib.Core.Path.{sym, ◌∙◌}
-use mathlib.Core.Logic.{⊎_elim}
-use native.Mathlib.Omega.{arith}
 use Rattle.job.specs.Structs.{grid_of, box_of}
-use Rattle.rules.proofs.Vertices.{vertex_below}
-use Rattle.views.specs.Sight.{in_row, in_layer}
-use Rattle.views.proofs.Axes.{FoundTo, found_begin, found_turn, found_none, found_end}
-use Rattle.views.proofs.Rows.{row_outside}
+use Rattle.views.specs.Sight.{in_layer}
+use Rattle.views.proofs.Axes.{FoundTo}
 use Rattle.views.proofs.guide.guide_layer.Given as goal
 
 abbrev pub invariant-loop-row : goal.invariant-loop-row

@@ -1,11 +1,9 @@
 -- `views::guide::guide_row` meets its contract.
-use Prim.Native.Nat.{◌-◌}
 use native.Mathlib.Omega.{arith}
-use Rattle.job.specs.Structs.{grid_of, box_of}
+use Rattle.job.specs.Structs.{grid_of}
 use Rattle.job.proofs.Grids.{Below}
 use Rattle.rules.proofs.Vertices.{vertex_below}
-use Rattle.views.specs.Sight.{in_row}
-use Rattle.views.proofs.Axes.{FoundTo, found_begin, found_end}
+use Rattle.views.proofs.Axes.{found_begin, found_end}
 use Rattle.views.proofs.Rows.{row_number, row_turn}
 use Rattle.views.proofs.guide.guide_row.Goals as goal
 

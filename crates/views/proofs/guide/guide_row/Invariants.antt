@@ -1,12 +1,8 @@
 -- `views::guide::guide_row` meets its contract: the vertices at the columns below are found.
 use Prim.Native.Nat.{◌-◌}
-use native.Mathlib.Omega.{arith}
 use Rattle.job.specs.Structs.{grid_of, box_of}
-use Rattle.job.proofs.Grids.{Below}
-use Rattle.rules.proofs.Vertices.{vertex_below}
 use Rattle.views.specs.Sight.{in_row}
-use Rattle.views.proofs.Axes.{FoundTo, found_begin, found_end}
-use Rattle.views.proofs.Rows.{row_number, row_turn}
+use Rattle.views.proofs.Axes.{FoundTo}
 use Rattle.views.proofs.guide.guide_row.Given as goal
 
 abbrev pub invariant-loop-column : goal.invariant-loop-column

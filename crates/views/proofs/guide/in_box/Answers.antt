@@ -1,7 +1,5 @@
 -- `views::guide::in_box` meets its contract: each way out is decided by one axis.
 use mathlib.Core.Path.{sym, ◌∙◌}
-use borrow.Author.Rules.{rules}
-use borrow.Author.Tests.{not-true, not-false}
 use Rattle.job.specs.Structs.{box_of}
 use Rattle.rules.proofs.Boxes.{box_layer, box_row, box_column}
 use Rattle.views.proofs.guide.in_box.Goals as goal

@@ -1,8 +1,6 @@
 -- `views::sight::open_pins` meets its contract.
-use Prim.Native.Nat.{◌-◌}
-use borrow.Author.Rules.{rules}
 use native.Mathlib.Omega.{arith}
-use Rattle.views.proofs.Opening.{PinsToOpen, pins_begin, pin-within, pins_turn, pins_end}
+use Rattle.views.proofs.Opening.{pins_begin, pin-within, pins_turn, pins_end}
 use Rattle.views.proofs.sight.open_pins.Goals as goal
 
 pub loop-i-init : goal.loop-i-init

@@ -1,9 +1,7 @@
 -- `views::sight::open_pins` meets its contract: opening the pins that are left gives what opening all of them
 -- gives.
 use Prim.Native.Nat.{◌-◌}
-use borrow.Author.Rules.{rules}
-use native.Mathlib.Omega.{arith}
-use Rattle.views.proofs.Opening.{PinsToOpen, pins_begin, pin-within, pins_turn, pins_end}
+use Rattle.views.proofs.Opening.{PinsToOpen}
 use Rattle.views.proofs.sight.open_pins.Given as goal
 
 abbrev pub invariant-loop-i : goal.invariant-loop-i

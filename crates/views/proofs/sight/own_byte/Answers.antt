@@ -1,5 +1,4 @@
 -- `views::sight::own_byte` meets its contract.
-use borrow.Author.Rules.{rules}
 use mathlib.Core.Path.{refl}
 use native.Mathlib.Omega.{arith}
 use Rattle.views.specs.Sight.{own_byte}

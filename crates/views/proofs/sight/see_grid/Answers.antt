@@ -1,9 +1,7 @@
 -- `views::sight::see_grid` meets its contract.
-use Prim.Native.Nat.{◌-◌}
 use mathlib.Core.Path.{◌∙◌}
 use native.Mathlib.Omega.{arith}
-use Rattle.job.specs.Structs.{grid_of}
-use Rattle.views.proofs.Guides.{BoxesLeft, guide_begin, guide_turn, guide_end}
+use Rattle.views.proofs.Guides.{guide_begin, guide_turn, guide_end}
 use Rattle.views.proofs.sight.see_grid.Goals as goal
 
 pub vertices-requires : goal.vertices-requires

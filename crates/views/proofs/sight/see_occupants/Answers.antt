@@ -1,11 +1,6 @@
 -- `views::sight::see_occupants` meets its contract.
-use Prim.Native.Nat.{◌-◌}
-use mathlib.Core.Bool.{not}
 use native.Mathlib.Omega.{arith}
-use lib.ListN.{get_or}
-use lib.Dec.{eqb}
-use Rattle.views.specs.Sight.{seen_byte}
-use Rattle.views.proofs.Sights.{MadeTo, made_begin, made_turn, made_end}
+use Rattle.views.proofs.Sights.{made_begin, made_turn, made_end}
 use Rattle.views.proofs.sight.see_occupants.Goals as goal
 
 pub loop-v-init : goal.loop-v-init

@@ -1,11 +1,10 @@
 -- `views::sight::see_occupants` meets its contract: the vertices below have their bytes.
 use Prim.Native.Nat.{◌-◌}
 use mathlib.Core.Bool.{not}
-use native.Mathlib.Omega.{arith}
 use lib.ListN.{get_or}
 use lib.Dec.{eqb}
 use Rattle.views.specs.Sight.{seen_byte}
-use Rattle.views.proofs.Sights.{MadeTo, made_begin, made_turn, made_end}
+use Rattle.views.proofs.Sights.{MadeTo}
 use Rattle.views.proofs.sight.see_occupants.Given as goal
 
 abbrev pub invariant-loop-v : goal.invariant-loop-v
