@@ -3,7 +3,7 @@
 --     Gone, gone_at, gone_on  where the moves so far have led, and what they did
 --     Entered, enter_all     a list of moves
 --     left_in                the arrays that it leaves
-use Rattle.std.specs.Prelude.{ℕ, ◌+◌, List, [], ◌∷◌, ◌++◌, set}
+use Rattle.std.specs.Prelude.{ℕ, List, [], ◌∷◌, ◌++◌, set}
 use Rattle.rules.specs.Views.{View}
 use Rattle.rules.specs.Segments.{Place}
 use Rattle.rules.specs.Prices.{Tech}

@@ -1,5 +1,4 @@
 -- `lines::put_hex_line` meets its contract: the first byte and those after it are the line. Assumes nothing.
-use borrow.Author.Rules.{rules}
 use Prim.Native.Nat.{◌<◌, ◌≤◌}
 use mathlib.Core.Path.{refl}
 use mathlib.Core.List.{[]}

@@ -1,6 +1,5 @@
 -- `lines::put_refused_line` meets its contract: the five parts are put one after the other (`put_then`), and
 -- there is room for the digits (`length_word`). Assumes nothing.
-use borrow.Author.Rules.{rules}
 use mathlib.Core.List.{[], ◌∷◌, ◌++◌}
 use native.Mathlib.Omega.{arith}
 use Rattle.lines.specs.Lines.{decimal, refused_text, at_text, newline, refused_line}

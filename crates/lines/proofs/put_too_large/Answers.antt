@@ -1,5 +1,4 @@
 -- `lines::put_too_large` meets its contract: the text is the line. Assumes nothing.
-use borrow.Author.Rules.{rules}
 use Rattle.lines.specs.Lines.{too_large_line}
 use Rattle.lines.proofs.Putting.{written}
 use Rattle.lines.proofs.put_too_large.Goals as goal

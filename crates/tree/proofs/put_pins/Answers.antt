@@ -1,10 +1,7 @@
 -- `tree::put_pins` meets its contract.
-use Prim.Native.Nat.{◌-◌}
-use mathlib.Core.Path.{◌≡◌, refl, sym, ◌∙◌}
+use mathlib.Core.Path.{refl, sym, ◌∙◌}
 use native.Mathlib.Omega.{arith}
-use lib.ListN.{take, drop}
 use Rattle.rules.proofs.Fitting.{one_more}
-use Rattle.tree.specs.Spots.{put_all}
 use Rattle.tree.proofs.Turns.{pin_vertex, put_turn, put_done}
 use Rattle.tree.proofs.put_pins.Goals as goal
 

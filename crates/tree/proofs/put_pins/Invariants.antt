@@ -1,11 +1,8 @@
 -- `tree::put_pins` meets its contract: putting at the pins that are left gives what putting at all gives.
 use Prim.Native.Nat.{◌-◌}
-use mathlib.Core.Path.{◌≡◌, refl, sym, ◌∙◌}
-use native.Mathlib.Omega.{arith}
+use mathlib.Core.Path.{◌≡◌}
 use lib.ListN.{take, drop}
-use Rattle.rules.proofs.Fitting.{one_more}
 use Rattle.tree.specs.Spots.{put_all}
-use Rattle.tree.proofs.Turns.{pin_vertex, put_turn, put_done}
 use Rattle.tree.proofs.put_pins.Given as goal
 
 abbrev pub invariant-loop-i : goal.invariant-loop-i

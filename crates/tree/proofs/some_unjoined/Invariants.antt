@@ -1,12 +1,8 @@
 -- `tree::some_unjoined` meets its contract: whether one of those left is unjoined is whether one of all is.
 use Prim.Native.Nat.{◌-◌}
-use mathlib.Core.Path.{◌≡◌, refl, sym, ◌∙◌}
-use native.Mathlib.Omega.{arith}
+use mathlib.Core.Path.{◌≡◌}
 use lib.ListN.{take, drop}
-use borrow.Author.Tests.{ne_eqb}
-use Rattle.rules.proofs.Fitting.{one_more}
 use Rattle.tree.specs.Spots.{some_unjoined}
-use Rattle.tree.proofs.Turns.{pin_vertex, some_found, some_turn, some_done}
 use Rattle.tree.proofs.some_unjoined.Given as goal
 
 abbrev pub invariant-loop-i : goal.invariant-loop-i

@@ -1,7 +1,6 @@
 -- `walker::enter_move` meets its contract.
 use mathlib.Core.Path.{refl}
 use native.Mathlib.Omega.{arith}
-use borrow.Author.Rules.{rules}
 use Rattle.metal.proofs.Laid.{laid_length, laid_then}
 use Rattle.walker.proofs.enter_move.Goals as goal
 
@@ -18,6 +17,6 @@ bounds-spots-into c = let pre = c.requires in omega (arith, pre.2, pre.0.vertice
 
 pub returns : goal.returns
 returns c = record {
-      map = laid_then _ _ _ _ c.lay_extension.ensures c.lay.ensures;
-      spots = refl;
-    }
+  map = laid_then _ _ _ _ c.lay_extension.ensures c.lay.ensures;
+  spots = refl;
+}

@@ -1,5 +1,4 @@
 -- `lines::hexadecimal::code` meets its contract: the test is the definition's. Assumes nothing.
-use borrow.Author.Rules.{rules}
 use borrow.Author.Tests.{lt-ltb, le-ltb}
 use Rattle.lines.proofs.hexadecimal.code.Goals as goal
 

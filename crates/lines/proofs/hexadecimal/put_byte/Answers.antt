@@ -1,5 +1,4 @@
 -- `lines::hexadecimal::put_byte` meets its contract: two stores, one after the other. Assumes nothing.
-use borrow.Author.Rules.{rules}
 use native.Mathlib.Numerals.{add-one}
 use native.Mathlib.Omega.{arith}
 use lib.ListN.{length-set}

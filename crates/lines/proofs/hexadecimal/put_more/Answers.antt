@@ -1,12 +1,11 @@
 -- `lines::hexadecimal::put_more` meets its contract.
-use borrow.Author.Rules.{rules}
-use Prim.Native.Nat.{◌+◌, ◌-◌, ◌*◌, ◌≤◌}
+use Prim.Native.Nat.{◌-◌}
 use mathlib.Core.Path.{◌≡◌, refl}
 use native.Mathlib.Omega.{arith}
 use lib.ListN.{length, take, drop, length-set, length-drop}
 use lib.Seq.{length-take-le}
 use Rattle.lines.specs.Lines.{hex_more}
-use Rattle.lines.proofs.Turn.{ToPut, more_turn, more_done, length_more}
+use Rattle.lines.proofs.Turn.{more_turn, more_done, length_more}
 use Rattle.lines.proofs.hexadecimal.put_more.Goals as goal
 
 pub loop-k-init : goal.loop-k-init

@@ -1,13 +1,10 @@
 -- `lines::hexadecimal::put_more` meets its contract. The invariant, `ToPut`: to put the bytes that are left
 -- gives what putting all of them gave. The measure is how many are left. Assumes nothing.
-use borrow.Author.Rules.{rules}
 use Prim.Native.Nat.{◌+◌, ◌-◌, ◌*◌, ◌≤◌}
-use mathlib.Core.Path.{◌≡◌, refl}
-use native.Mathlib.Omega.{arith}
-use lib.ListN.{length, take, drop, length-set, length-drop}
-use lib.Seq.{length-take-le}
+use mathlib.Core.Path.{◌≡◌}
+use lib.ListN.{take, drop}
 use Rattle.lines.specs.Lines.{hex_more}
-use Rattle.lines.proofs.Turn.{ToPut, more_turn, more_done, length_more}
+use Rattle.lines.proofs.Turn.{ToPut}
 use Rattle.lines.proofs.hexadecimal.put_more.Given as goal
 
 abbrev pub invariant-loop-k : goal.invariant-loop-k

@@ -1,7 +1,7 @@
 -- `lines::words::digit_count` meets its contract.
 use mathlib.Core.Path.{refl}
 use native.Mathlib.Omega.{arith}
-use Rattle.lines.proofs.Turn.{Tenths, tenths_turn, tenths_done}
+use Rattle.lines.proofs.Turn.{tenths_turn, tenths_done}
 use Rattle.lines.proofs.words.digit_count.Goals as goal
 
 pub loop-rest-init : goal.loop-rest-init

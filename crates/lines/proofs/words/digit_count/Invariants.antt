@@ -1,8 +1,6 @@
 -- `lines::words::digit_count` meets its contract. The invariant, `Tenths`: the digits counted and those of
 -- the rest are one more than the number's. The measure is the rest. Assumes nothing.
-use mathlib.Core.Path.{refl}
-use native.Mathlib.Omega.{arith}
-use Rattle.lines.proofs.Turn.{Tenths, tenths_turn, tenths_done}
+use Rattle.lines.proofs.Turn.{Tenths}
 use Rattle.lines.proofs.words.digit_count.Given as goal
 
 abbrev pub invariant-loop-rest : goal.invariant-loop-rest

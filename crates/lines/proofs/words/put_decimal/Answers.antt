@@ -1,10 +1,9 @@
 -- `lines::words::put_decimal` meets its contract.
-use borrow.Author.Rules.{rules}
 use Prim.Native.Nat.{◌/◌}
 use mathlib.Core.Path.{refl}
 use native.Mathlib.Omega.{arith}
 use Rattle.lines.proofs.Decimals.{length_tenth, length-decimal}
-use Rattle.lines.proofs.Turn.{Spelt, spelt_turn, spelt_done}
+use Rattle.lines.proofs.Turn.{spelt_turn, spelt_done}
 use Rattle.lines.proofs.words.put_decimal.Goals as goal
 
 pub overflow_add-next : goal.overflow_add-next

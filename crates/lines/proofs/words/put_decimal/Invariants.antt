@@ -1,12 +1,7 @@
 -- `lines::words::put_decimal` meets its contract. The invariant, `Spelt`: to put the digits of the rest gives
 -- what putting all of them gave, and the last of them goes to `last`. The measure is the rest. Assumes
 -- nothing.
-use borrow.Author.Rules.{rules}
-use Prim.Native.Nat.{◌/◌}
-use mathlib.Core.Path.{refl}
-use native.Mathlib.Omega.{arith}
-use Rattle.lines.proofs.Decimals.{length_tenth, length-decimal}
-use Rattle.lines.proofs.Turn.{Spelt, spelt_turn, spelt_done}
+use Rattle.lines.proofs.Turn.{Spelt}
 use Rattle.lines.proofs.words.put_decimal.Given as goal
 
 abbrev pub invariant-loop-rest : goal.invariant-loop-rest

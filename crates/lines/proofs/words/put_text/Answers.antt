@@ -1,11 +1,10 @@
 -- `lines::words::put_text` meets its contract.
-use borrow.Author.Rules.{rules}
-use Prim.Native.Nat.{◌+◌, ◌-◌, ◌≤◌}
+use Prim.Native.Nat.{◌+◌}
 use mathlib.Core.Path.{refl}
 use native.Mathlib.Nat.{add-zero}
 use native.Mathlib.Omega.{arith}
-use lib.ListN.{length, drop, drop_of_length-le}
-use Rattle.lines.proofs.Turn.{ToPut, text_turn, put_done}
+use lib.ListN.{drop_of_length-le}
+use Rattle.lines.proofs.Turn.{text_turn, put_done}
 use Rattle.lines.proofs.words.put_text.Goals as goal
 
 pub loop-k-init : goal.loop-k-init

@@ -1,12 +1,8 @@
 -- `lines::words::put_text` meets its contract. The invariant, `ToPut`: to put the codes that are left gives
 -- what putting all of them gave. The measure is how many are left. Assumes nothing.
-use borrow.Author.Rules.{rules}
 use Prim.Native.Nat.{◌+◌, ◌-◌, ◌≤◌}
-use mathlib.Core.Path.{refl}
-use native.Mathlib.Nat.{add-zero}
-use native.Mathlib.Omega.{arith}
-use lib.ListN.{length, drop, drop_of_length-le}
-use Rattle.lines.proofs.Turn.{ToPut, text_turn, put_done}
+use lib.ListN.{length, drop}
+use Rattle.lines.proofs.Turn.{ToPut}
 use Rattle.lines.proofs.words.put_text.Given as goal
 
 abbrev pub invariant-loop-k : goal.invariant-loop-k

@@ -1,7 +1,5 @@
 -- `occupants::nets::good_box` meets its contract: each way out is decided by one axis.
 use mathlib.Core.Path.{sym, ◌∙◌}
-use borrow.Author.Rules.{rules}
-use borrow.Author.Tests.{not-true, not-false}
 use Rattle.job.specs.Structs.{grid_of, box_of}
 use Rattle.occupants.proofs.BoxTurns.{box_layers, box_rows, box_columns}
 use Rattle.occupants.proofs.nets.good_box.Goals as goal

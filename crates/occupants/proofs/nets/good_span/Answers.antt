@@ -1,5 +1,4 @@
 -- `occupants::nets::good_span` meets its contract.
-use borrow.Author.Rules.{rules}
 use borrow.Author.Tests.{le-leb, lt-leb}
 use Rattle.job.specs.Reading.{good_span}
 use Rattle.occupants.proofs.nets.good_span.Goals as goal

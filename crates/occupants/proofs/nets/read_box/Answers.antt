@@ -1,7 +1,5 @@
 -- `occupants::nets::read_box` meets its contract: cut, against the rule, or read.
 use mathlib.Core.Path.{sym, ◌∙◌}
-use borrow.Author.Rules.{rules}
-use borrow.Author.Tests.{not-true, not-false}
 use Rattle.occupants.proofs.BoxTurns.{box_cut, box_told}
 use Rattle.occupants.proofs.nets.read_box.Goals as goal
 

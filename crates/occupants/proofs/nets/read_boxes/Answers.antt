@@ -1,10 +1,7 @@
 -- `occupants::nets::read_boxes` meets its contract.
 use mathlib.Core.Path.{sym, ◌∙◌}
 use native.Mathlib.Omega.{arith}
-use borrow.Author.Rules.{rules}
-use Rattle.bits.specs.Bits.{bits_of}
-use Rattle.job.specs.Structs.{grid_of}
-use Rattle.occupants.proofs.BoxTurns.{BoxesLeft, boxes_all, boxes_next, boxes_refused, boxes_done}
+use Rattle.occupants.proofs.BoxTurns.{boxes_all, boxes_next, boxes_refused, boxes_done}
 use Rattle.occupants.proofs.nets.read_boxes.Goals as goal
 
 pub loop-left-init : goal.loop-left-init

@@ -1,10 +1,7 @@
 -- `occupants::nets::read_boxes` meets its contract: reading the boxes that are left is reading all of them.
-use mathlib.Core.Path.{sym, ◌∙◌}
-use native.Mathlib.Omega.{arith}
-use borrow.Author.Rules.{rules}
 use Rattle.bits.specs.Bits.{bits_of}
 use Rattle.job.specs.Structs.{grid_of}
-use Rattle.occupants.proofs.BoxTurns.{BoxesLeft, boxes_all, boxes_next, boxes_refused, boxes_done}
+use Rattle.occupants.proofs.BoxTurns.{BoxesLeft}
 use Rattle.occupants.proofs.nets.read_boxes.Given as goal
 
 abbrev pub invariant-loop-left : goal.invariant-loop-left

@@ -2,7 +2,6 @@
 -- answer.
 use mathlib.Core.Path.{sym, ◌∙◌}
 use native.Mathlib.Omega.{arith}
-use borrow.Author.Rules.{rules}
 use Rattle.occupants.proofs.Answers.{told, told_refused}
 use Rattle.occupants.proofs.PinTurns.{pins_position}
 use Rattle.occupants.proofs.NetTurns.{net_cut, net_counts, net_rules}

@@ -1,9 +1,7 @@
 -- `occupants::nets::read_nets` meets its contract.
 use native.Mathlib.Omega.{arith}
-use borrow.Author.Rules.{rules}
-use Rattle.job.specs.Structs.{grid_of}
 use Rattle.occupants.proofs.Answers.{told_at, told_refused}
-use Rattle.occupants.proofs.NetTurns.{NetsLeft, nets_all, nets_next, nets_refused, nets_done}
+use Rattle.occupants.proofs.NetTurns.{nets_all, nets_next, nets_refused, nets_done}
 use Rattle.occupants.proofs.nets.read_nets.Goals as goal
 
 pub loop-left-init : goal.loop-left-init

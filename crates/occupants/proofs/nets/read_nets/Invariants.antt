@@ -1,9 +1,6 @@
 -- `occupants::nets::read_nets` meets its contract: reading the nets that are left is reading all of them.
-use native.Mathlib.Omega.{arith}
-use borrow.Author.Rules.{rules}
 use Rattle.job.specs.Structs.{grid_of}
-use Rattle.occupants.proofs.Answers.{told_at, told_refused}
-use Rattle.occupants.proofs.NetTurns.{NetsLeft, nets_all, nets_next, nets_refused, nets_done}
+use Rattle.occupants.proofs.NetTurns.{NetsLeft}
 use Rattle.occupants.proofs.nets.read_nets.Given as goal
 
 abbrev pub invariant-loop-left : goal.invariant-loop-left

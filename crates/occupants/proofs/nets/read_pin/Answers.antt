@@ -1,8 +1,6 @@
 -- `occupants::nets::read_pin` meets its contract: cut, outside, on an obstacle, on an earlier pin, or read
 -- and put there.
 use mathlib.Core.Path.{sym, ◌∙◌}
-use borrow.Author.Rules.{rules}
-use borrow.Author.Tests.{not-true, not-false}
 use Rattle.job.proofs.Sizes.{inside_fields}
 use Rattle.occupants.proofs.Answers.{told_at, told_refused}
 use Rattle.occupants.proofs.PinTurns.{pin_cut, pin_rules, index_below}

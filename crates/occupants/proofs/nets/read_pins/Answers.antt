@@ -1,10 +1,7 @@
 -- `occupants::nets::read_pins` meets its contract.
 use native.Mathlib.Omega.{arith}
-use borrow.Author.Rules.{rules}
-use Rattle.bits.specs.Bits.{bits_of}
-use Rattle.job.specs.Structs.{grid_of}
 use Rattle.occupants.proofs.Answers.{told_at, told_refused}
-use Rattle.occupants.proofs.PinTurns.{PinsLeft, pins_all, pins_next, pins_refused, pins_done}
+use Rattle.occupants.proofs.PinTurns.{pins_all, pins_next, pins_refused, pins_done}
 use Rattle.occupants.proofs.nets.read_pins.Goals as goal
 
 pub loop-left-init : goal.loop-left-init

@@ -1,7 +1,6 @@
 -- `occupants::obstacles::cover_run` meets its contract.
-use mathlib.Core.Path.{◌≡◌, refl, sym, ◌∙◌}
+use mathlib.Core.Path.{refl, sym, ◌∙◌}
 use native.Mathlib.Omega.{arith}
-use Rattle.occupants.specs.Occupants.{cover_every, RunInside}
 use Rattle.occupants.proofs.CoverTurns.{cover_turn, cover_done}
 use Rattle.occupants.proofs.obstacles.cover_run.Goals as goal
 

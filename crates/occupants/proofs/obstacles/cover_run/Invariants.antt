@@ -1,9 +1,7 @@
 -- `occupants::obstacles::cover_run` meets its contract: covering what is left from here gives what covering
 -- the whole run gives.
-use mathlib.Core.Path.{◌≡◌, refl, sym, ◌∙◌}
-use native.Mathlib.Omega.{arith}
+use mathlib.Core.Path.{◌≡◌}
 use Rattle.occupants.specs.Occupants.{cover_every, RunInside}
-use Rattle.occupants.proofs.CoverTurns.{cover_turn, cover_done}
 use Rattle.occupants.proofs.obstacles.cover_run.Given as goal
 
 abbrev pub invariant-loop-left : goal.invariant-loop-left

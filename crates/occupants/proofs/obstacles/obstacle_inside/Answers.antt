@@ -1,11 +1,9 @@
 -- `occupants::obstacles::obstacle_inside` meets its contract: the first vertex is inside, and its track has
 -- room for the run.
 -- past the first test, the first vertex is inside
-use borrow.Author.Rules.{rules}
 use mathlib.Core.Path.{◌≡◌, sym, ◌∙◌}
 use mathlib.Core.Bool.{true}
 use native.Mathlib.Omega.{arith}
-use borrow.Author.Tests.{not-true, not-false}
 use Rattle.job.specs.Grid.{inside}
 use Rattle.job.specs.Structs.{grid_of, vertex_of}
 use Rattle.job.proofs.Grids.{Below, below}

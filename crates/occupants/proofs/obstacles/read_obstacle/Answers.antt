@@ -1,8 +1,6 @@
 -- `occupants::obstacles::read_obstacle` meets its contract: a cut group, an obstacle that is not all inside,
 -- and one that is.
-use borrow.Author.Rules.{rules}
 use mathlib.Core.Path.{sym, ◌∙◌}
-use borrow.Author.Tests.{not-true, not-false}
 use Rattle.occupants.proofs.CoverTurns.{group_run, read_cut, read_outside, read_inside}
 use Rattle.occupants.proofs.obstacles.read_obstacle.Goals as goal
 

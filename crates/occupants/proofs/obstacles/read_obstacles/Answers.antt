@@ -1,11 +1,7 @@
 -- `occupants::obstacles::read_obstacles` meets its contract.
-use borrow.Author.Rules.{rules}
-use Prim.Native.Nat.{◌+◌, ◌*◌}
-use mathlib.Core.Path.{◌≡◌, refl, sym, ap, ◌∙◌}
+use mathlib.Core.Path.{refl, sym, ap, ◌∙◌}
 use native.Mathlib.Omega.{arith}
-use Rattle.bits.specs.Bits.{bits_of}
-use Rattle.job.specs.Structs.{grid_of}
-use Rattle.occupants.specs.Occupants.{obstacles_from, answer_of, occupants_of}
+use Rattle.occupants.specs.Occupants.{answer_of, occupants_of}
 use Rattle.occupants.proofs.CoverTurns.{read_fits, obstacles_turn, obstacles_stop, obstacles_done}
 use Rattle.occupants.proofs.obstacles.read_obstacles.Goals as goal
 

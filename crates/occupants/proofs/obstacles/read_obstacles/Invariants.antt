@@ -1,13 +1,10 @@
 -- `occupants::obstacles::read_obstacles` meets its contract: reading what is left from here gives what
 -- reading them all gives.
-use borrow.Author.Rules.{rules}
 use Prim.Native.Nat.{◌+◌, ◌*◌}
-use mathlib.Core.Path.{◌≡◌, refl, sym, ap, ◌∙◌}
-use native.Mathlib.Omega.{arith}
+use mathlib.Core.Path.{◌≡◌}
 use Rattle.bits.specs.Bits.{bits_of}
 use Rattle.job.specs.Structs.{grid_of}
-use Rattle.occupants.specs.Occupants.{obstacles_from, answer_of, occupants_of}
-use Rattle.occupants.proofs.CoverTurns.{read_fits, obstacles_turn, obstacles_stop, obstacles_done}
+use Rattle.occupants.specs.Occupants.{obstacles_from}
 use Rattle.occupants.proofs.obstacles.read_obstacles.Given as goal
 
 abbrev pub invariant-loop-left : goal.invariant-loop-left

@@ -1,5 +1,4 @@
 -- `routing::net::route_net` meets its contract.
-use borrow.Author.Rules.{rules}
 use Rattle.job.specs.Structs.{grid_of}
 use Rattle.tree.proofs.Spots.{begun_among}
 use Rattle.routing.proofs.net.route_net.Goals as goal

@@ -1,16 +1,12 @@
 -- `routing::net::route_records` meets its contract.
 use Prim.Native.Nat.{ℕ}
-use mathlib.Core.Path.{◌≡◌, refl, sym, ap, ◌∙◌}
+use mathlib.Core.Path.{refl, sym, ap, ◌∙◌}
 use mathlib.Core.List.{List}
 use native.Mathlib.Omega.{arith}
-use borrow.Author.Rules.{rules}
-use borrow.Author.Tests.{not-true, not-false}
-use lib.ListN.{length, take}
-use Rattle.job.specs.Structs.{grid_of}
-use Rattle.rules.specs.Structs.{tech_by, seen_by}
-use Rattle.bounds.specs.Fills.{Among}
+use lib.ListN.{length}
+use Rattle.rules.specs.Structs.{tech_by}
 use Rattle.joins.specs.Joined.{JoinedFits}
-use Rattle.routing.proofs.Records.{Recording, recording_begun, recording_joined, recording_done}
+use Rattle.routing.proofs.Records.{recording_begun, recording_joined, recording_done}
 use Rattle.routing.proofs.OneRecord.{recording_none, recording_on}
 use Rattle.routing.proofs.net.route_records.Goals as goal
 

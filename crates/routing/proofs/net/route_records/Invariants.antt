@@ -1,17 +1,10 @@
 -- `routing::net::route_records` meets its contract: what has been routed, then the rest, is the whole.
-use Prim.Native.Nat.{ℕ}
-use mathlib.Core.Path.{◌≡◌, refl, sym, ap, ◌∙◌}
-use mathlib.Core.List.{List}
-use native.Mathlib.Omega.{arith}
-use borrow.Author.Rules.{rules}
-use borrow.Author.Tests.{not-true, not-false}
-use lib.ListN.{length, take}
+use mathlib.Core.Path.{◌≡◌}
+use lib.ListN.{take}
 use Rattle.job.specs.Structs.{grid_of}
-use Rattle.rules.specs.Structs.{tech_by, seen_by}
+use Rattle.rules.specs.Structs.{seen_by}
 use Rattle.bounds.specs.Fills.{Among}
-use Rattle.joins.specs.Joined.{JoinedFits}
-use Rattle.routing.proofs.Records.{Recording, recording_begun, recording_joined, recording_done}
-use Rattle.routing.proofs.OneRecord.{recording_none, recording_on}
+use Rattle.routing.proofs.Records.{Recording}
 use Rattle.routing.proofs.net.route_records.Given as goal
 
 abbrev pub invariant-loop-left : goal.invariant-loop-left

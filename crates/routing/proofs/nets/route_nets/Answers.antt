@@ -1,13 +1,12 @@
 -- `routing::nets::route_nets` meets its contract.
 use Prim.Native.Nat.{ℕ}
-use mathlib.Core.Path.{◌≡◌, refl, ap, ◌∙◌}
+use mathlib.Core.Path.{refl, ap, ◌∙◌}
 use mathlib.Core.List.{List}
 use native.Mathlib.Omega.{arith}
-use borrow.Author.Rules.{rules}
 use lib.ListN.{length}
 use Rattle.rules.specs.Structs.{tech_by}
 use Rattle.walker.proofs.Nets.{nets_sized, nets_room, nets_kept, net_below, hand_held, pins_fit, pins_below, boxes_few}
-use Rattle.routing.proofs.Netting.{Netting, netting_begun, netting_on, netting_done, fits_all, bounded_next}
+use Rattle.routing.proofs.Netting.{netting_begun, netting_on, netting_done, fits_all, bounded_next}
 use Rattle.routing.proofs.nets.route_nets.Goals as goal
 
 pub fill_prices-requires : goal.fill_prices-requires

@@ -1,5 +1,4 @@
 -- `routing::whole::route_plan` meets its contract.
-use borrow.Author.Rules.{rules}
 use Rattle.walker.proofs.Wholes.{plan_room, pins_held, nets_held, count-zeroed, bare_long}
 use Rattle.routing.proofs.Wholes.{routed_long, routed_answer, routed_plan, routed-map}
 use Rattle.routing.proofs.whole.route_plan.Goals as goal
