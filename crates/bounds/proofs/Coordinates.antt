@@ -4,7 +4,7 @@
 --     bound_along, bound_via                   the bound of the vertex entered, by the coordinates of the one
 --                                              left
 --     small_sum, bare_small                    what is left is small, and in an array of zeros
-use Prim.Native.Nat.{ℕ, zero, suc, ◌+◌, ◌-◌, ◌^◌, ◌≤◌, ◌<◌}
+use Prim.Native.Nat.{ℕ, zero, suc, ◌+◌, ◌^◌, ◌≤◌, ◌<◌}
 use mathlib.Core.Path.{◌≡◌, refl, sym, ap, ◌∙◌}
 use mathlib.Core.List.{List}
 use mathlib.Core.Bool.{Bool, true, false}

@@ -18,10 +18,9 @@ use Rattle.job.specs.Good.{GoodJob}
 use Rattle.job.specs.Reading.{good}
 use Rattle.job.proofs.Tests.{tests}
 use Rattle.job.proofs.Binds.{steps as binds}
-use Rattle.rules.specs.Tracks.{at}
 use Rattle.rules.specs.Views.{pins_of, view_of}
 use Rattle.rules.specs.Prices.{Tech, tech_of}
-use Rattle.rules.specs.Walks.{start_at, walked}
+use Rattle.rules.specs.Walks.{start_at}
 use Rattle.rules.specs.Standings.{Standing, metal_at_first, begun}
 use Rattle.rules.specs.Apart.{Stands}
 use Rattle.rules.specs.Joins.{join}

@@ -12,7 +12,6 @@ use lib.ListN.{length, get_or, set, replicate, length-set, get_or-append}
 use lib.Seq.{get_or-append-add}
 use Rattle.job.specs.Lists.{All}
 use Rattle.job.specs.Job.{Layer}
-use Rattle.rules.specs.Tracks.{at}
 use Rattle.rules.specs.Prices.{Tech}
 use Rattle.counts.specs.Counts.{kinds, Count, counted}
 use Rattle.counts.specs.Counts.{count_prices, report_prices, worth}

@@ -7,12 +7,11 @@
 mod input;
 mod line;
 
+use input::read_full;
+use line::line_of;
 use std::env::{Env, FillError};
 use std::io;
 use std::io::Write;
-
-use input::read_full;
-use line::line_of;
 
 // Whether the program was called with an argument.
 fn has_argument<R: Env>(rt: &R) -> bool {

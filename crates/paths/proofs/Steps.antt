@@ -4,7 +4,7 @@
 use Prim.Native.Nat.{ℕ}
 use mathlib.Core.Path.{◌≡◌}
 use native.Mathlib.Omega.{arith}
-use Rattle.paths.specs.Systems.{Step, blocked, to}
+use Rattle.paths.specs.Systems.{Step, to}
 
 pub not_blocked : {P : Type 0} {p : ℕ} {q : P} → Step.blocked ≡ to p q → ⊥
 not_blocked e = let z : ◌≡◌ {A = ℕ} 0 1 = cc in omega arith

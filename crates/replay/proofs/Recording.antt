@@ -15,7 +15,7 @@ use lib.Dec.{eqb}
 use borrow.Author.Tests.{eqb-true, eqb-false}
 use Rattle.bits.specs.Bits.{field, whole}
 use Rattle.bits.specs.Puts.{AllBelow}
-use Rattle.job.specs.Reading.{Read, good, rule}
+use Rattle.job.specs.Reading.{Read, rule}
 use Rattle.rules.specs.Views.{View}
 use Rattle.rules.specs.Structs.{TechFits, tech_by}
 use Rattle.rules.specs.Routings.{Totals, with_join, with_net}

@@ -8,7 +8,7 @@
 use Rattle.std.specs.Prelude.{ℕ, zero, suc, ◌+◌, ◌*◌, List, Bool, ◌&&◌, cond, not, get_or, leb, eqb}
 use Rattle.bits.specs.Bits.{field}
 use Rattle.job.specs.Grid.{Grid, vertex_number, inside}
-use Rattle.job.specs.Reading.{Read, refused, good, ◌>>=◌, ◌>>◌, rule, vertex_at}
+use Rattle.job.specs.Reading.{Read, refused, good, ◌>>◌, rule, vertex_at}
 use Rattle.rules.specs.Walks.{walk_cost}
 use Rattle.rules.specs.Views.{View}
 use Rattle.rules.specs.Segments.{Place}

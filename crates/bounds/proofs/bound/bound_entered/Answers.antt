@@ -1,6 +1,5 @@
 -- `bounds::bound::bound_entered` meets its contract: each kind of move by its law.
 use mathlib.Core.Path.{sym, ap, ◌∙◌}
-use borrow.Author.Rules.{rules}
 use Rattle.rules.specs.Segments.{low, high}
 use Rattle.rules.specs.Structs.{kind_by, next_on}
 use Rattle.bounds.proofs.Coordinates.{via_on, changed, bound_along, bound_via}

@@ -1,7 +1,6 @@
 -- `bounds::bound::sum_along` meets its contract.
 use mathlib.Core.Path.{refl, ◌∙◌}
 use native.Mathlib.Omega.{arith}
-use borrow.Author.Rules.{rules}
 use Rattle.bounds.proofs.Coordinates.{next_few}
 use Rattle.bounds.proofs.bound.sum_along.Goals as goal
 

@@ -1,6 +1,5 @@
 -- `bounds::bound::sum_at` meets its contract.
 use native.Mathlib.Omega.{arith}
-use borrow.Author.Rules.{rules}
 use Rattle.bounds.specs.Bounds.{SmallBounds}
 use Rattle.bounds.proofs.bound.sum_at.Goals as goal
 

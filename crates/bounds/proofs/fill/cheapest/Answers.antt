@@ -1,10 +1,8 @@
 -- `bounds::fill::cheapest` meets its contract.
-use Prim.Native.Nat.{◌-◌, ◌≤◌}
 use mathlib.Core.Path.{◌≡◌, refl}
 use native.Mathlib.Omega.{arith}
 use Rattle.bounds.specs.Fills.{cheapest_of}
 use Rattle.bounds.proofs.Axes.{cheapest_turn}
-use borrow.Author.Rules.{rules}
 use Rattle.bounds.proofs.fill.cheapest.Goals as goal
 
 pub loop-layer-init : goal.loop-layer-init

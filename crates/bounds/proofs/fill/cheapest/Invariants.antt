@@ -1,10 +1,7 @@
 -- `bounds::fill::cheapest` meets its contract: the lowest of the prices below.
 use Prim.Native.Nat.{◌-◌, ◌≤◌}
-use mathlib.Core.Path.{◌≡◌, refl}
-use native.Mathlib.Omega.{arith}
+use mathlib.Core.Path.{◌≡◌}
 use Rattle.bounds.specs.Fills.{cheapest_of}
-use Rattle.bounds.proofs.Axes.{cheapest_turn}
-use borrow.Author.Rules.{rules}
 use Rattle.bounds.proofs.fill.cheapest.Given as goal
 
 abbrev pub invariant-loop-layer : goal.invariant-loop-layer

@@ -1,11 +1,9 @@
 -- `bounds::fill::fill_axis` meets its contract.
-use Prim.Native.Nat.{◌-◌, ◌≤◌}
 use mathlib.Core.Path.{◌≡◌, refl, ap, ◌∙◌}
 use native.Mathlib.Omega.{arith}
 use lib.ListN.{length}
 use Rattle.bounds.specs.Fills.{axis_filled}
 use Rattle.bounds.proofs.Axes.{axis_turn, axis_size}
-use borrow.Author.Rules.{rules}
 use Rattle.bounds.proofs.fill.fill_axis.Goals as goal
 
 pub loop-i-init : goal.loop-i-init

@@ -1,11 +1,7 @@
 -- `bounds::fill::fill_axis` meets its contract: the entries below are filled.
 use Prim.Native.Nat.{◌-◌, ◌≤◌}
-use mathlib.Core.Path.{◌≡◌, refl, ap, ◌∙◌}
-use native.Mathlib.Omega.{arith}
-use lib.ListN.{length}
+use mathlib.Core.Path.{◌≡◌}
 use Rattle.bounds.specs.Fills.{axis_filled}
-use Rattle.bounds.proofs.Axes.{axis_turn, axis_size}
-use borrow.Author.Rules.{rules}
 use Rattle.bounds.proofs.fill.fill_axis.Given as goal
 
 abbrev pub invariant-loop-i : goal.invariant-loop-i

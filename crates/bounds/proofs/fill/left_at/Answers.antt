@@ -3,7 +3,6 @@ use mathlib.Core.Path.{refl}
 use native.Mathlib.Omega.{arith}
 use Rattle.bounds.specs.Fills.{leaves}
 use Rattle.bounds.proofs.Axes.{leaves_fits}
-use borrow.Author.Rules.{rules}
 use Rattle.bounds.proofs.fill.left_at.Goals as goal
 
 pub overflow_mul-result : goal.overflow_mul-result

@@ -1,9 +1,6 @@
 -- `bounds::fill::unjoined_box` meets its contract.
-use Prim.Native.Nat.{◌-◌, ◌≤◌}
 use mathlib.Core.Path.{◌≡◌, refl}
 use native.Mathlib.Omega.{arith}
-use borrow.Author.Rules.{rules}
-use Rattle.job.specs.Structs.{grid_of}
 use Rattle.tree.proofs.Turns.{pin_vertex}
 use Rattle.bounds.specs.Fills.{unjoined_box}
 use Rattle.bounds.proofs.Boxes.{pin_on_grid, box_turn, box_kept}
@@ -38,11 +35,10 @@ loop-i-preserved c =
     let loop = c.loop-i in
     let i = loop.i in
     let so_far = loop.invariant.1 in
-    let on = c.loop-i-test.true in
-    (
+    let on = c.loop-i-test.true in (
       omega (arith, on),
       elim c.if-spots-pin-eq-UNJOINED.branch [
-          then-spots-pin-eq-UNJOINED w ↦ rw w.around-is (box_turn _ _ _ i refl so_far w.if-spots-pin-eq-UNJOINED.true w.vertex_by.ensures w.widened_box-around.ensures)
+        | then-spots-pin-eq-UNJOINED w ↦ rw w.around-is (box_turn _ _ _ i refl so_far w.if-spots-pin-eq-UNJOINED.true w.vertex_by.ensures w.widened_box-around.ensures)
         | else-spots-pin-eq-UNJOINED w ↦ rw w.around-is (box_kept _ _ _ i refl so_far w.if-spots-pin-eq-UNJOINED.false)
       ],
     )

@@ -1,13 +1,8 @@
 -- `bounds::fill::unjoined_box` meets its contract: the box of the unjoined ones of the pins below.
 use Prim.Native.Nat.{◌-◌, ◌≤◌}
-use mathlib.Core.Path.{◌≡◌, refl}
-use mathlib.Core.Logic.{⊎_elim}
-use native.Mathlib.Omega.{arith}
-use borrow.Author.Rules.{rules}
+use mathlib.Core.Path.{◌≡◌}
 use Rattle.job.specs.Structs.{grid_of}
-use Rattle.tree.proofs.Turns.{pin_vertex}
 use Rattle.bounds.specs.Fills.{unjoined_box}
-use Rattle.bounds.proofs.Boxes.{pin_on_grid, box_turn, box_kept}
 use Rattle.bounds.proofs.fill.unjoined_box.Given as goal
 
 abbrev pub invariant-loop-i : goal.invariant-loop-i

@@ -1,6 +1,5 @@
 -- `bounds::fill::widened` meets its contract: each end is the farther one.
 use mathlib.Core.Path.{refl}
-use borrow.Author.Rules.{rules}
 use Rattle.bounds.proofs.fill.widened.Goals as goal
 
 pub returns : goal.returns

@@ -1,6 +1,5 @@
 -- `bounds::fill::widened_box` meets its contract: each span is widened.
 use mathlib.Core.Path.{refl}
-use borrow.Author.Rules.{rules}
 use Rattle.bounds.proofs.fill.widened_box.Goals as goal
 
 pub returns : goal.returns

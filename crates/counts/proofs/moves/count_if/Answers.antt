@@ -1,5 +1,4 @@
 -- `counts::moves::count_if` meets its contract.
-use borrow.Author.Rules.{rules}
 use Rattle.counts.specs.Counts.{one_if}
 use Rattle.counts.proofs.Counting.{none_more}
 use Rattle.counts.proofs.moves.count_if.Goals as goal

@@ -1,7 +1,6 @@
 -- `counts::moves::count_move` meets its contract: five counts, one after the other.
 use mathlib.Core.Path.{ap}
 use native.Mathlib.Omega.{arith}
-use borrow.Author.Rules.{rules}
 use Rattle.rules.proofs.Fitting.{fits}
 use Rattle.counts.proofs.Counting.{fit_under, fit_one, way_one, one_few, move_counted}
 use Rattle.counts.proofs.moves.count_move.Goals as goal

@@ -1,5 +1,4 @@
 -- `counts::moves::count_way` meets its contract: up, down, or along.
-use borrow.Author.Rules.{rules}
 use borrow.Author.Tests.{lt-ltb, le-ltb}
 use Rattle.counts.specs.Counts.{way_count}
 use Rattle.counts.proofs.moves.count_way.Goals as goal

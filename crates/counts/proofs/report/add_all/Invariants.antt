@@ -1,8 +1,6 @@
 -- `counts::report::add_all` meets its contract.
 use Prim.Native.Nat.{◌-◌}
-use native.Mathlib.Omega.{arith}
-use borrow.Author.Rules.{rules}
-use Rattle.counts.proofs.Reporting.{AddedTo, added_none, added_turn, added_done}
+use Rattle.counts.proofs.Reporting.{AddedTo}
 use Rattle.counts.proofs.report.add_all.Given as goal
 
 abbrev pub invariant-loop-i : goal.invariant-loop-i

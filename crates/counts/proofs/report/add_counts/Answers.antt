@@ -1,6 +1,5 @@
 -- `counts::report::add_counts` meets its contract: the report is short, a count is too large, or all are
 -- added.
-use borrow.Author.Rules.{rules}
 use Rattle.counts.proofs.Reporting.{none_fits, room_short, room_over, room_whole}
 use Rattle.counts.proofs.report.add_counts.Goals as goal
 

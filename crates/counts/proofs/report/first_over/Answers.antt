@@ -1,10 +1,6 @@
 -- `counts::report::first_over` meets its contract.
-use Prim.Native.Nat.{◌-◌}
-use mathlib.Core.Path.{◌≡◌, refl, ◌∙◌}
+use mathlib.Core.Path.{refl, ◌∙◌}
 use native.Mathlib.Omega.{arith}
-use borrow.Author.Rules.{rules}
-use Rattle.counts.specs.Reports.{none_over}
-use Rattle.counts.specs.Structs.{plus}
 use Rattle.counts.proofs.Reporting.{over_turn, over_found, over_done}
 use Rattle.counts.proofs.report.first_over.Goals as goal
 

@@ -1,12 +1,9 @@
 -- `counts::report::first_over` meets its contract: whether one of those left is too large is whether one of
 -- all is.
 use Prim.Native.Nat.{◌-◌}
-use mathlib.Core.Path.{◌≡◌, refl, ◌∙◌}
-use native.Mathlib.Omega.{arith}
-use borrow.Author.Rules.{rules}
+use mathlib.Core.Path.{◌≡◌}
 use Rattle.counts.specs.Reports.{none_over}
 use Rattle.counts.specs.Structs.{plus}
-use Rattle.counts.proofs.Reporting.{over_turn, over_found, over_done}
 use Rattle.counts.proofs.report.first_over.Given as goal
 
 abbrev pub invariant-loop-i : goal.invariant-loop-i

@@ -1,5 +1,4 @@
 -- `maizespell::line::good_line` meets its contract: the tests are the definition's.
-use borrow.Author.Rules.{rules}
 use Rattle.maizespell.proofs.Cases.{good_wide, good_long, good_small}
 use Rattle.maizespell.proofs.line.good_line.Goals as goal
 

@@ -1,5 +1,4 @@
 -- `maizespell::line::line_of` meets its contract: too many bytes, a refused job, or a good one.
-use borrow.Author.Rules.{rules}
 use Rattle.reader.proofs.Outcome.{read_at, read_refused, zeros_bare}
 use Rattle.lines.proofs.Putting.{written_within}
 use Rattle.maizespell.proofs.Cases.{line_long, line_refused, line_good}

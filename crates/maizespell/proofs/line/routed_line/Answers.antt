@@ -1,6 +1,5 @@
 -- `maizespell::line::routed_line` meets its contract: routing is refused, or its plan is written and has
 -- room.
-use borrow.Author.Rules.{rules}
 use native.Mathlib.Omega.{arith}
 use Rattle.maizespell.proofs.Cases.{routed_refused, routed_plan, routed_room}
 use Rattle.maizespell.proofs.line.routed_line.Goals as goal

@@ -1,6 +1,5 @@
 -- `replay::join::end_join` meets its contract.
 use native.Mathlib.Omega.{arith}
-use borrow.Author.Rules.{rules}
 use Rattle.replay.specs.Structs.{MovesFit, JoinFits}
 use Rattle.replay.proofs.Joining.{cost_next, ended_refused, ended_other, ended_same}
 use Rattle.replay.proofs.join.end_join.Goals as goal
@@ -11,9 +10,9 @@ read_cost-reached-requires c = omega (arith, c.requires.0)
 pub returns-in-Refused : goal.returns-in-Refused
 unfolding JoinFits
 returns-in-Refused c = record {
-      answer = ended_refused _ _ c.in-Refused.is;
-      fits = tt;
-    }
+  answer = ended_refused _ _ c.in-Refused.is;
+  fits = tt;
+}
 
 pub returns-in-At : goal.returns-in-At
 unfolding JoinFits MovesFit
@@ -30,6 +29,6 @@ returns-in-At c =
 pub returns-in-Refused-reached : goal.returns-in-Refused-reached
 unfolding JoinFits
 returns-in-Refused-reached c = record {
-      answer = ended_other _ _ c.in-Walked.is c.read_cost-reached.ensures c.in-Refused-reached.is;
-      fits = tt;
-    }
+  answer = ended_other _ _ c.in-Walked.is c.read_cost-reached.ensures c.in-Refused-reached.is;
+  fits = tt;
+}

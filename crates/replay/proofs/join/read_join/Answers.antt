@@ -1,6 +1,5 @@
 -- `replay::join::read_join` meets its contract.
 use native.Mathlib.Omega.{arith}
-use borrow.Author.Rules.{rules}
 use Rattle.bits.proofs.Laws.{bits_of_bits}
 use Rattle.rules.specs.Structs.{tech_by}
 use Rattle.counts.proofs.Counting.{fit_under}

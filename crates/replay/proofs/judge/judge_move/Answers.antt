@@ -1,7 +1,6 @@
 -- `replay::judge::judge_move` meets its contract: each way out by its law.
 use mathlib.Core.Path.{refl, sym, ap}
 use native.Mathlib.Omega.{arith}
-use borrow.Author.Rules.{rules}
 use Rattle.bits.specs.declared.FieldRead.{FieldRead}
 use Rattle.job.proofs.Fields.{is_whole, is_cut, all_left, room}
 use Rattle.rules.specs.Structs.{tech_by}

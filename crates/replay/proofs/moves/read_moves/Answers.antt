@@ -1,14 +1,10 @@
 -- `replay::moves::read_moves` meets its contract.
 use mathlib.Core.Path.{refl, ap}
 use native.Mathlib.Omega.{arith}
-use borrow.Author.Rules.{rules}
-use Rattle.bits.specs.Bits.{bits_of}
-use Rattle.job.specs.Structs.{grid_of}
-use Rattle.rules.specs.Seen.{view_by}
 use Rattle.rules.specs.Structs.{tech_by}
 use Rattle.rules.proofs.Fitting.{fits}
 use Rattle.counts.proofs.Counting.{fit_under}
-use Rattle.replay.proofs.Walking.{Walking, move_fits, walking_begun, walking_refused, walking_on, walking_done}
+use Rattle.replay.proofs.Walking.{move_fits, walking_begun, walking_refused, walking_on, walking_done}
 use Rattle.replay.proofs.moves.read_moves.Goals as goal
 
 pub vertex_by-first-requires : goal.vertex_by-first-requires

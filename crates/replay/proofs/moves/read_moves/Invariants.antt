@@ -1,15 +1,9 @@
 -- `replay::moves::read_moves` meets its contract: reading the moves that are left gives what reading all
 -- gives.
-use mathlib.Core.Path.{refl, ap}
-use native.Mathlib.Omega.{arith}
-use borrow.Author.Rules.{rules}
 use Rattle.bits.specs.Bits.{bits_of}
 use Rattle.job.specs.Structs.{grid_of}
 use Rattle.rules.specs.Seen.{view_by}
-use Rattle.rules.specs.Structs.{tech_by}
-use Rattle.rules.proofs.Fitting.{fits}
-use Rattle.counts.proofs.Counting.{fit_under}
-use Rattle.replay.proofs.Walking.{Walking, move_fits, walking_begun, walking_refused, walking_on, walking_done}
+use Rattle.replay.proofs.Walking.{Walking}
 use Rattle.replay.proofs.moves.read_moves.Given as goal
 
 abbrev pub invariant-loop-left : goal.invariant-loop-left

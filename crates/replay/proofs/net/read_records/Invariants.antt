@@ -1,18 +1,11 @@
 -- `replay::net::read_records` meets its contract: reading the records that are left gives what reading all
 -- gives.
-use mathlib.Core.Path.{refl, sym, ◌∙◌}
-use native.Mathlib.Omega.{arith}
-use borrow.Author.Rules.{rules}
-use borrow.Author.Tests.{not-true, not-false}
 use lib.ListN.{take}
 use Rattle.bits.specs.Bits.{bits_of}
-use Rattle.bits.proofs.Laws.{bits_of_bits}
 use Rattle.job.specs.Structs.{grid_of}
 use Rattle.rules.specs.Seen.{view_by}
 use Rattle.walker.specs.Structs.{totals_of}
-use Rattle.replay.specs.Structs.{JoinFits}
-use Rattle.counts.proofs.Counting.{fit_under}
-use Rattle.replay.proofs.Recording.{Recording, recording_begun, recording_joined, recording_cut, recording_none, recording_refused, recording_on, recording_done}
+use Rattle.replay.proofs.Recording.{Recording}
 use Rattle.replay.proofs.net.read_records.Given as goal
 
 abbrev pub invariant-loop-left : goal.invariant-loop-left

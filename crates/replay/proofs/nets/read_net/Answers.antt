@@ -1,5 +1,4 @@
 -- `replay::nets::read_net` meets its contract.
-use borrow.Author.Rules.{rules}
 use Rattle.replay.proofs.nets.read_net.Goals as goal
 
 pub begin_tree-requires : goal.begin_tree-requires

@@ -1,12 +1,9 @@
 -- `replay::nets::read_nets` meets its contract.
 use mathlib.Core.Path.{refl}
 use native.Mathlib.Omega.{arith}
-use borrow.Author.Rules.{rules}
-use Rattle.bits.specs.Bits.{bits_of}
-use Rattle.bits.proofs.Laws.{bits_of_bits}
 use Rattle.replay.specs.Structs.{NetFits}
 use Rattle.walker.proofs.Nets.{nets_sized, nets_room, nets_kept, net_below, hand_held, pins_fit, pins_below, boxes_few}
-use Rattle.replay.proofs.Netting.{Netting, netting_begun, bounded_next, netting_refused, netting_kept, netting_on, netting_done, fits_all}
+use Rattle.replay.proofs.Netting.{netting_begun, bounded_next, netting_refused, netting_kept, netting_on, netting_done, fits_all}
 use Rattle.replay.proofs.nets.read_nets.Goals as goal
 
 pub fill_prices-requires : goal.fill_prices-requires

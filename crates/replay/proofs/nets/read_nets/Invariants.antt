@@ -1,12 +1,7 @@
 -- `replay::nets::read_nets` meets its contract: reading the nets that are left gives what reading all gives.
-use mathlib.Core.Path.{refl}
-use native.Mathlib.Omega.{arith}
-use borrow.Author.Rules.{rules}
 use Rattle.bits.specs.Bits.{bits_of}
 use Rattle.bits.proofs.Laws.{bits_of_bits}
-use Rattle.replay.specs.Structs.{NetFits}
-use Rattle.walker.proofs.Nets.{nets_sized, nets_room, nets_kept, net_below, hand_held, pins_fit, pins_below, boxes_few}
-use Rattle.replay.proofs.Netting.{Netting, netting_begun, bounded_next, netting_refused, netting_kept, netting_on, netting_done, fits_all}
+use Rattle.replay.proofs.Netting.{Netting}
 use Rattle.replay.proofs.nets.read_nets.Given as goal
 
 abbrev pub invariant-loop-left : goal.invariant-loop-left

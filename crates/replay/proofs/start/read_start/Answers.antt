@@ -1,8 +1,6 @@
 -- `replay::start::read_start` meets its contract: each way out by its law.
 use mathlib.Core.Path.{refl, sym, ap, ◌∙◌}
 use native.Mathlib.Omega.{arith}
-use borrow.Author.Rules.{rules}
-use borrow.Author.Tests.{not-true, not-false}
 use Rattle.bits.specs.declared.FieldRead.{FieldRead}
 use Rattle.job.proofs.Fields.{is_whole, is_cut, all_left}
 use Rattle.job.proofs.Sizes.{inside_fields}

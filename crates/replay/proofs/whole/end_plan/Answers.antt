@@ -1,7 +1,6 @@
 -- `replay::whole::end_plan` meets its contract.
 use mathlib.Core.Path.{sym, ◌∙◌}
 use native.Mathlib.Omega.{arith}
-use borrow.Author.Rules.{rules}
 use Rattle.replay.specs.Structs.{NetFits}
 use Rattle.replay.proofs.Wholes.{end_refused, end_tail, end_good}
 use Rattle.replay.proofs.whole.end_plan.Goals as goal

@@ -1,5 +1,4 @@
 -- `replay::whole::finish_map` meets its contract.
-use borrow.Author.Rules.{rules}
 use Rattle.replay.specs.Structs.{finished_map}
 use Rattle.replay.proofs.whole.finish_map.Goals as goal
 

@@ -1,5 +1,4 @@
 -- `replay::whole::replay_plan` meets its contract.
-use borrow.Author.Rules.{rules}
 use Rattle.walker.proofs.Wholes.{plan_room, pins_held, nets_held, after_long, count-zeroed, bare_long}
 use Rattle.replay.proofs.Wholes.{plan_answer, plan_map, plan_counted, count_finished}
 use Rattle.replay.proofs.whole.replay_plan.Goals as goal
