@@ -9,12 +9,13 @@ from promises.source import Definition
 
 DECLARED = re.compile(r"(?:pub(?:\(crate\))? )?(struct|enum) (\w+)")
 PART = re.compile(r"(?:pub(?:\(crate\))? )?(\w+)[:,(]")
-CLAUSE = re.compile(r"\b(requires|ensures)\b\s*(\w*)\s*\{")
+CLAUSE = re.compile(r"\b(requires|ensures)\b\*?\s*(\w*)\s*\{")
 
 
 @dataclass
 class Clause:
-    """A clause of a contract, with the words that the function's head binds and the type of its result."""
+    """A clause of a contract, with the words that the function's head binds and the type of its result. What is
+    returned is bound too, as `result`, where it is told what holds of it."""
     function: str
     name: str
     text: str
@@ -42,15 +43,28 @@ def read_code(path: str, text: str) -> Code:
     lines = [line for line in text.splitlines() if line.strip() and not line.strip().startswith("//")]
     for at, line in enumerate(lines):
         if line.startswith("ghost use "):
-            code.imports.append(line[len("ghost "):].rstrip(";"))
+            code.imports.append(statement(lines[at:])[len("ghost "):])
         elif line.startswith("use "):
-            code.uses[line.rstrip(";").split("::")[-1]] = line[len("use "):].rstrip(";")
+            code.uses.update(used(statement(lines[at:])[len("use "):]))
         elif DECLARED.match(line):
             declared = read_type(path, lines[at:])
             code.types[declared.name] = declared
         elif re.match(r"pub\b.*\bfn \w+\(", line):
             code.clauses += read_clauses(lines[at:])
     return code
+
+
+def statement(lines: List[str]) -> str:
+    """The text from the first line on, up to a semicolon, in one line."""
+    end = next((at for at, line in enumerate(lines) if line.endswith(";")), 0)
+    return " ".join(line.strip() for line in lines[:end + 1]).rstrip(";")
+
+
+def used(text: str) -> Dict[str, str]:
+    """The paths that an import of code brings, one or several in braces, each by its last name."""
+    before, _, several = text.partition("{")
+    paths = [before + one.strip() for one in several.rstrip("}").split(",") if one.strip()] or [text]
+    return {path.split("::")[-1]: path for path in paths}
 
 
 def read_type(path: str, lines: List[str]) -> Definition:
@@ -69,10 +83,11 @@ def read_clauses(lines: List[str]) -> List[Clause]:
     function = re.search(r"fn (\w+)\(", head)[1]
     contract = CLAUSE.search(head)
     signature = head[:contract.start()] if contract else head
-    bound = tuple(re.findall(r"(\w+):", signature))
+    given = tuple(re.findall(r"(\w+):", signature))
+    bound = {"requires": given, "ensures": (*given, "result")}
     result = re.search(r"-> (\w+)", signature)
     return [
-        Clause(function, found[2] or found[1], braced(head, found.end()), bound, result[1] if result else "")
+        Clause(function, found[2] or found[1], braced(head, found.end()), bound[found[1]], result[1] if result else "")
         for found in CLAUSE.finditer(head)
     ]
 

@@ -1,12 +1,12 @@
 """All that some names reach: the definitions that they name, those that these name, and so on."""
 
 import re
-from typing import Dict, Iterable, List, Set, Union
+from typing import Dict, Iterable, List, Set, Tuple, Union
 
 from promises.code import Clause, Code
 from promises.errors import SourceError
 from promises.scope import Tree
-from promises.source import Definition
+from promises.source import Definition, words
 from promises.uses import Uses, clause_uses, definition_uses
 
 Name = Union[Definition, str]
@@ -50,6 +50,12 @@ def follow_clause(tree: Tree, path: str, clause: Clause) -> List[Reach]:
     apart = [follow(tree, [name]) for name in [*uses.names, *([result] if result else [])]]
     check_fields(union(apart), dict.fromkeys(uses.fields, uses.where))
     return apart
+
+
+def meaning(tree: Tree, path: str, clause: Clause) -> Tuple[str, Tuple[str, ...], str, List[str], Set[Name]]:
+    """All that a clause says, to be compared: its parts, its words without their layout, and what these stand for."""
+    uses = clause_uses(clause, tree.scope(path), path)
+    return clause.name, clause.bound, clause.result, words(clause.text), set(uses.names)
 
 
 def union(reaches: Iterable[Reach]) -> Reach:

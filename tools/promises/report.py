@@ -3,8 +3,9 @@
 from pathlib import Path
 from typing import Dict, Iterator, List, Sequence, Set, Tuple
 
+from promises.code import Clause
 from promises.errors import SourceError
-from promises.follow import Reach, follow_clause, union
+from promises.follow import Reach, follow_clause, meaning, union
 from promises.scope import Tree
 from promises.source import Definition, Source
 
@@ -14,6 +15,8 @@ CALLS = {
     "maizespell_report": "crates/router/src/report_call.rt",
     "maizespell_routing": "crates/router/src/routing_call.rt",
 }
+EXPORTS = "crates/router_c/src/lib.rt"
+"""Where C finds the library's calls: each must promise there what it does in its own file."""
 PROGRAM = {"line_of": "crates/maizespell/src/line.rt"}
 Claims = Sequence[Tuple[str, str]]
 CLAIMS = (("crates/plan/specs/Claim.antt", "Cheapest"), ("crates/plan/specs/Claim.antt", "ByTies"))
@@ -24,11 +27,16 @@ COLUMNS = ("claim", "promise", "calls", "all")
 class Promises:
     """What is reached by the claim, by the promises that make it, by the library's calls, and by all."""
 
-    def __init__(self, root: Path, calls: Dict[str, str], program: Dict[str, str], claims: Claims) -> None:
+    def __init__(
+        self, root: Path, calls: Dict[str, str], program: Dict[str, str], claims: Claims, exports: str = ""
+    ) -> None:
         self.tree = Tree(root)
         self.claims = claims
         in_calls = [reach for function, path in calls.items() for reach in self.clauses(function, path)]
         others = [reach for function, path in program.items() for reach in self.clauses(function, path)]
+        for function, path in calls.items() if exports else ():
+            if self.meaning(function, path) != self.meaning(function, exports):
+                raise SourceError(f"{exports}: {function} does not promise what it does in {path}")
         claiming = [apart for apart in [*in_calls, *others] if any(map(self.claimed, apart))]
         if not claiming:
             raise SourceError("no promise makes the claim")
@@ -40,12 +48,20 @@ class Promises:
         }
         self.files = reading_order(self.tree, {one.path for one in self.reached["all"].definitions})
 
-    def clauses(self, function: str, path: str) -> List[List[Reach]]:
-        """For each clause of a function's contract, what each name of it reaches."""
+    def contract(self, function: str, path: str) -> List[Clause]:
+        """The clauses of a function's contract."""
         clauses = [one for one in self.tree.file(path).clauses if one.function == function]
         if not clauses:
             raise SourceError(f"{path}: no promise of {function}")
-        return [follow_clause(self.tree, path, clause) for clause in clauses]
+        return clauses
+
+    def meaning(self, function: str, path: str) -> List[Tuple]:
+        """All that the clauses of a function's contract say."""
+        return [meaning(self.tree, path, clause) for clause in self.contract(function, path)]
+
+    def clauses(self, function: str, path: str) -> List[List[Reach]]:
+        """For each clause of a function's contract, what each name of it reaches."""
+        return [follow_clause(self.tree, path, clause) for clause in self.contract(function, path)]
 
     def claimed(self, reach: Reach) -> bool:
         """Whether a word that reaches so much makes the claim."""

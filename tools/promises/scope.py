@@ -1,7 +1,7 @@
 """What a word of a file means: a definition of the repository, a name of a library, or nothing known."""
 
 import re
-from dataclasses import dataclass
+from dataclasses import dataclass, replace
 from pathlib import Path
 from typing import Dict, Iterator, List, Optional, Tuple, Union
 
@@ -10,14 +10,32 @@ from promises.errors import SourceError
 from promises.source import Definition, Source, read_source
 
 IMPORT = re.compile(r"use (\S+?)(?:\.\{(.*)\}| as (\S+))$")
-LIBRARY_CONSTRUCTORS = {"zero", "suc", "true", "false", "[]", "_∷_", "tt"}
+LIBRARY_CONSTRUCTORS = {"zero", "suc", "true", "false", "[]", "◌∷◌", "tt"}
+ARGUMENT = "◌"
+"""Where a sign's full name has an argument."""
 
 
 @dataclass(frozen=True)
 class Found:
-    """What a name stands for: a definition, or the text of a library's name."""
+    """What a name stands for: a definition, or the text of a library's name; and the fields written behind it."""
     target: Union[Definition, str]
     constructor: bool = False
+    fields: Tuple[str, ...] = ()
+
+    def followed_by(self, parts: List[str]) -> Optional["Found"]:
+        """The same with parts behind it: fields, but behind a type's name one of its constructors comes first."""
+        if self.constructor or not has_constructors(self.target):
+            return replace(self, fields=tuple(parts))
+        if isinstance(self.target, Definition) and parts[0] not in self.target.parts:
+            return None
+        return Found(self.target, True, tuple(parts[1:]))
+
+
+def has_constructors(target: Union[Definition, str]) -> bool:
+    """Whether a name is that of a type with constructors. Of a library's name the first letter tells."""
+    if isinstance(target, Definition):
+        return target.kind in ("data", "enum")
+    return target.rpartition(".")[2][:1].isupper()
 
 
 class Tree:
@@ -45,12 +63,12 @@ class Tree:
 
     def place(self, module: str) -> Optional[Tuple[str, str]]:
         """The file that a module's path names, and the declared type if it names one; none: a library's."""
-        first, *rest = module.split(".")
-        crate = first.split("·")[1] if "·" in first else ""
-        if not crate or not (self.root / "crates" / crate).is_dir():
+        first, *inside = module.split(".")
+        if first != "Rattle" or not inside or not (self.root / "crates" / inside[0]).is_dir():
             return None
+        crate, *rest = inside
         if rest[:2] == ["specs", "declared"]:
-            *within, name = [part for part in rest[2:] if part != "the-variants"]
+            *within, name = [part for part in rest[2:] if part != "TheVariants"]
             return f"crates/{crate}/src/{'/'.join(within) or 'lib'}.rt", name
         return f"crates/{crate}/{'/'.join(rest)}.antt", ""
 
@@ -61,7 +79,10 @@ class Tree:
             return Found(f"{module}.{name}", name in LIBRARY_CONSTRUCTORS)
         path, declared = place
         if declared:
-            return Found(self.declared(path, declared), name != declared)
+            one = self.declared(path, declared)
+            if name not in (declared, *one.parts):
+                raise SourceError(f"{path}: {declared} has no {name}")
+            return Found(one, name != declared)
         found = dict(own_names(self.file(path))).get(name)
         if found is None:
             raise SourceError(f"{path} defines no {name}")
@@ -92,12 +113,13 @@ class Scope:
         self.tree = tree
         self.path = file.path
         self.names: Dict[str, Found] = {}
+        self.signs: Dict[str, Found] = {}
         self.modules: Dict[str, str] = {}
         self.imported: List[str] = []
         for line in file.imports:
             self.bring(line)
-        if isinstance(file, Source):
-            self.names.update(own_names(file))
+        for name, found in own_names(file) if isinstance(file, Source) else ():
+            self.add(name, found)
 
     def bring(self, line: str) -> None:
         """An import: names of a module, perhaps renamed, or the module under a name."""
@@ -112,16 +134,22 @@ class Scope:
         for name in (names or "").split(","):
             before, _, after = name.strip().partition(" as ")
             if before:
-                self.names[after or before] = self.tree.member(module, before)
+                self.add(after or before, self.tree.member(module, before))
+
+    def add(self, name: str, found: Found) -> None:
+        """A name; of a sign, such as `◌+◌`, also each word that stands between its arguments."""
+        self.names[name] = found
+        self.signs.update((part, found) for part in name.split(ARGUMENT) if ARGUMENT in name and part)
 
     def find(self, word: str) -> Optional[Found]:
-        """A word, an infix sign by its full name, or a name behind that of its type or module."""
-        head, dot, last = word.partition(".")
-        for name in (word, f"_{word}_"):
-            if name in self.names:
-                return self.names[name]
-        if dot and last and head in self.modules:
-            return self.tree.member(self.modules[head], last)
-        if dot and last and head in self.names:
-            return Found(self.names[head].target, True)
-        return None
+        """A word, one of a sign, or a name, perhaps behind that of its type or module, with the fields behind it."""
+        for named in (self.names, self.signs):
+            if word in named:
+                return named[word]
+        head, *parts = word.split(".")
+        if not parts or not all(parts):
+            return None
+        if head in self.modules:
+            found = self.tree.member(self.modules[head], parts[0])
+            return found.followed_by(parts[1:]) if parts[1:] else found
+        return self.names[head].followed_by(parts) if head in self.names else None

@@ -1,44 +1,50 @@
 """The names that a text uses. A word is bound there, or the language's, or found in the file's scope."""
 
-from typing import List, Optional, Set, Union
+from typing import Iterable, List, Optional, Set, Union
 
 from promises.code import Clause
 from promises.errors import SourceError
 from promises.scope import Scope
 from promises.source import SIGNATURE, Definition, body_of, indent, items, names_of, words
 
-LANGUAGE = set("Type Unit tt ⊥ × → in elim record do : = ; , . _ ↦ ⌜ ⌝".split())
-AT_ENTRY_OR_EXIT = {"entry", "exit"}
+LANGUAGE = set("Type Unit tt ⊥ ¬ × → in elim record do : = ; , . _ ↦ ⌜ ⌝".split())
+REFERRED = {"now", "old", "new", "entry", "exit"}
+"""Behind a name of a function's head: what a reference refers to, and the reference itself, before and after."""
 
 
 class Uses:
     """What is used: definitions and library names, and fields."""
 
-    def __init__(self, scope: Scope, where: str) -> None:
+    def __init__(self, scope: Scope, where: str, head: Iterable[str] = ()) -> None:
         self.scope = scope
         self.where = where
+        self.head = set(head)
         self.names: List[Union[Definition, str]] = []
         self.fields: Set[str] = set()
 
     def word(self, word: str, bound: Set[str]) -> None:
-        """A word of an expression."""
-        if word.startswith(".") and len(word) > 1:
-            self.fields.add(word[1:])
-        elif word not in bound and word not in LANGUAGE and not word.isdigit():
+        """A word of an expression: a name with the fields behind it, or the fields behind a bracket."""
+        name, *fields = word.split(".")
+        if name in bound or not name and word not in LANGUAGE:
+            self.fields.update(one for one in fields if name not in self.head or one not in REFERRED)
+        elif word not in LANGUAGE and not word.isdigit():
             found = self.scope.find(word)
             if found is None:
                 raise SourceError(f"{self.where}: what is {word}?")
             self.names.append(found.target)
+            self.fields.update(found.fields)
         if word == "do":
-            self.names += [self.scope.find(bind).target for bind in ("_>>=_", "_>>_") if self.scope.find(bind)]
+            self.names += [self.scope.find(bind).target for bind in ("◌>>=◌", "◌>>◌") if self.scope.find(bind)]
 
     def pattern(self, given: List[str]) -> Set[str]:
         """The variables of a pattern: its words that are no constructors."""
         bound = set()
         for word in given:
             found = self.scope.find(word)
-            if found and found.constructor:
+            if found and found.constructor and not found.fields:
                 self.names.append(found.target)
+            elif "." in word:
+                raise SourceError(f"{self.where}: what is {word}?")
             elif word not in "(){}_" and not word.isdigit():
                 bound.add(word)
         return bound
@@ -158,7 +164,6 @@ def function_uses(uses: Uses, lines: List[str], bound: Set[str]) -> None:
 
 def clause_uses(clause: Clause, scope: Scope, path: str) -> Uses:
     """What a clause of a contract uses."""
-    uses = Uses(scope, f"{path}: {clause.function}, {clause.name}")
-    uses.expression(words(clause.text), {"now", *clause.bound})
-    uses.fields -= AT_ENTRY_OR_EXIT
+    uses = Uses(scope, f"{path}: {clause.function}, {clause.name}", clause.bound)
+    uses.expression(words(clause.text), set(clause.bound))
     return uses
