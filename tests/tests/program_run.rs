@@ -1,5 +1,5 @@
 //! The program itself on files of jobs: one line, that of the second program. A Rattle
-//! program has no exit status of its own, so what went wrong is on standard error.
+//! What went wrong is on standard error, and the exit status is 0.
 //!
 //! MAIZESPELL_PROGRAM names it, or it is `../target/bin/maizespell`.
 

@@ -16,9 +16,9 @@ const HEAD: &str = "\
 -- The least costs to go in the marked jobs: for each job a table for each of its joins, in order. A table has
 -- a row for each vertex in the order of their numbers, and the row an entry for each segment: fresh, running
 -- low and high by length, paid, paid toward low and toward high. 0 is infinite, and n + 1 is the cost n.
---     costsA .. costsN     the tables of each job
+--     costs_a .. costs_n     the tables of each job
 use Prim.Native.Nat.{ℕ}
-use mathlib.Core.List.{List, [], _∷_}
+use mathlib.Core.List.{List, [], ◌∷◌}
 ";
 
 /// Between two elements that do not stand on one line.
@@ -29,8 +29,9 @@ pub fn text() -> String {
     let mut text = HEAD.to_string();
     for (letter, job) in marked::all() {
         let tables = tables(&job).join(NEXT);
-        text += &format!("\nunfoldable pub costs{letter} : List (List (List ℕ))\n");
-        text += &format!("costs{letter} =\n    {tables} ∷ []\n");
+        let letter = letter.to_ascii_lowercase();
+        text += &format!("\nunfoldable pub costs_{letter} : List (List (List ℕ))\n");
+        text += &format!("costs_{letter} =\n    {tables} ∷ []\n");
     }
     text
 }
