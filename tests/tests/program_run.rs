@@ -1,5 +1,5 @@
-//! The program itself on files of jobs: one line, that of the second program. A Rattle
-//! What went wrong is on standard error, and the exit status is 0.
+//! The program itself on files of jobs: one line, that of the second program. What went
+//! wrong is on standard error, and the exit status is 0.
 //!
 //! MAIZESPELL_PROGRAM names it, or it is `../target/bin/maizespell`.
 
