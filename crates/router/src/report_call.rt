@@ -36,7 +36,8 @@ pub fn maizespell_report(
 {
     let mut counts: [usize; 48] = [0; 48];
     let result = replay_counted(bytes, plan, map, work, &mut counts);
-    if result.refusal != 0 {
+    let refusal = result.refusal;
+    if refusal != 0 {
         return result;
     }
     report_counts(report, &counts, result)

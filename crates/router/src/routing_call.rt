@@ -57,7 +57,8 @@ fn end_routing(
         ≡ cond (ltb (length plan.old) bytes) (zeroed (length plan.old) plan.old) plan.old }
 {
     let room = plan.len();
-    if room < bytes {
+    let need = bytes;
+    if room < need {
         zero_codes(map, vertices);
         zero_bytes(plan, room);
         return refused_routing(14, bytes);

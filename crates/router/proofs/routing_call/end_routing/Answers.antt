@@ -3,9 +3,9 @@ use Rattle.router.specs.Routing.{total_result}
 use Rattle.router.proofs.Routes.{end_short, end_enough}
 use Rattle.router.proofs.routing_call.end_routing.Goals as goal
 
-pub returns-then-room-bytes : goal.returns-then-room-bytes
-returns-then-room-bytes c =
-    let short = c.if-room-bytes.true in
+pub returns-then-room-need : goal.returns-then-room-need
+returns-then-room-need c =
+    let short = c.if-room-need.true in
     record {
       result = end_short _ _ short c.refused_routing.ensures;
       map = end_short _ _ short c.zero_codes.ensures;
@@ -14,7 +14,7 @@ returns-then-room-bytes c =
 
 pub returns : goal.returns
 unfolding total_result
-returns c = let enough = c.if-room-bytes.false in
+returns c = let enough = c.if-room-need.false in
     record {
       result = end_enough _ _ enough;
       map = end_enough _ _ enough;
