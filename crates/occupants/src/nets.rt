@@ -28,7 +28,8 @@ pub fn read_pin(s: &[u8], grid: Grid, at: usize, occupants: &mut [u8; 16384]) ->
     if occupant == OBSTACLE {
         return Reached::Refused(8, at);
     }
-    if occupant == PIN {
+    let earlier = PIN;
+    if occupant == earlier {
         return Reached::Refused(9, at);
     }
     occupants[vertex] = PIN;

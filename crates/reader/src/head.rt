@@ -6,6 +6,11 @@ ghost use Rattle.reader.specs.Structs.{head_read};
 
 use job::groups::{Head, HeadGroup, head_group};
 
+// The edition that is read.
+const EDITION: usize = 1;
+// A grid has no more vertices.
+const MOST_VERTICES: usize = 16384;
+
 #[derive(Clone, Copy)]
 pub enum HeadRead {
     Good(Head),
@@ -18,10 +23,10 @@ pub fn read_head(s: &[u8]) -> HeadRead
     let HeadGroup::Whole(edition, head) = head_group(s) else {
         return HeadRead::Refused(2, 0);
     };
-    if edition != 1 {
+    if edition != EDITION {
         return HeadRead::Refused(3, 0);
     }
-    if 16384 < head.grid.vertices() {
+    if MOST_VERTICES < head.grid.vertices() {
         return HeadRead::Refused(4, 8);
     }
     HeadRead::Good(head)

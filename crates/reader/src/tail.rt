@@ -7,6 +7,9 @@ ghost use Rattle.occupants.specs.Structs.{many_reached};
 use bits::Cursor;
 use occupants::reached::Reached;
 
+// The bits of a byte.
+const BYTE: usize = 8;
+
 // Fewer than eight bits are left, and they are zero.
 pub fn read_tail(s: &[u8], at: usize) -> Reached
     requires { (length s.now ≤ 262144) × (at < 2 ^ 32) }
@@ -17,7 +20,7 @@ pub fn read_tail(s: &[u8], at: usize) -> Reached
         return Reached::At(at);
     }
     let left = end - at;
-    if 8 <= left {
+    if BYTE <= left {
         return Reached::Refused(11, at);
     }
     let tail = Cursor { at }.field(s, left);

@@ -18,6 +18,9 @@ use occupants::nets::read_nets;
 use occupants::obstacles::read_obstacles;
 use occupants::reached::Reached;
 
+// A job has no more bytes.
+const MOST_BYTES: usize = 262144;
+
 // How far reading came, with the head and the layer lines, which are 0 after a refusal.
 #[derive(Clone, Copy)]
 pub struct JobRead {
@@ -100,7 +103,7 @@ pub fn read_job(s: &[u8], occupants: &mut [u8; 16384]) -> JobRead
     ensures read { result ≡ job_read (read_job s.now) }
     ensures occupants { (j : Job) → read_job s.now ≡ good j → Occupants j.grid j.obstacles (all_pins j.nets) occupants.new }
 {
-    if 262144 < s.len() {
+    if MOST_BYTES < s.len() {
         return refused_job(1, 0);
     }
     let read = read_head(s);

@@ -34,11 +34,11 @@ returns-then-occupant-eq-OBSTACLE c =
     (sym c.inside.ensures ∙ c.if-not-inside.false) c.number-vertex.ensures c.if-occupant-eq-OBSTACLE.true) in
     record { answer = all.0; occupants = all.1 }
 
-pub returns-then-occupant-eq-PIN : goal.returns-then-occupant-eq-PIN
-returns-then-occupant-eq-PIN c =
+pub returns-then-occupant-earlier : goal.returns-then-occupant-earlier
+returns-then-occupant-earlier c =
     let all = told_refused
     ((pin_rules _ _ _ _ _ (sym c.vertex_group.ensures ∙ c.in-Whole.is)).taken _
-    (sym c.inside.ensures ∙ c.if-not-inside.false) c.number-vertex.ensures c.if-occupant-eq-PIN.true) in
+    (sym c.inside.ensures ∙ c.if-not-inside.false) c.number-vertex.ensures c.if-occupant-earlier.true) in
     record { answer = all.0; occupants = all.1 }
 
 pub bounds-occupants-vertex-2 : goal.bounds-occupants-vertex-2
@@ -50,5 +50,5 @@ pub returns : goal.returns
 returns c =
     let all = told_at
     ((pin_rules _ _ _ _ _ (sym c.vertex_group.ensures ∙ c.in-Whole.is)).fine _
-    (sym c.inside.ensures ∙ c.if-not-inside.false) c.number-vertex.ensures c.if-occupant-eq-OBSTACLE.false c.if-occupant-eq-PIN.false) in
+    (sym c.inside.ensures ∙ c.if-not-inside.false) c.number-vertex.ensures c.if-occupant-eq-OBSTACLE.false c.if-occupant-earlier.false) in
     record { answer = all.0; occupants = all.1 }

@@ -15,25 +15,25 @@ pub returns-in_default : goal.returns-in_default
 unfolding read_head ◌>>◌ rule head_read
 returns-in_default c = rw (cut_head _ (sym c.head_group.ensures ∙ c.in_default.is))
 
-pub returns-then-edition-ne1 : goal.returns-then-edition-ne1
+pub returns-then-edition-ne-EDITION : goal.returns-then-edition-ne-EDITION
 unfolding read_head ◌>>◌ rule head_read
-returns-then-edition-ne1 c =
+returns-then-edition-ne-EDITION c =
     let held : WholeHead c.args.s.now c.in-Whole.edition c.in-Whole.head = whole_head _ _ _ (sym c.head_group.ensures ∙ c.in-Whole.is) in
     let h = held in
-    rw (h.whole, ← h.edition, ne_eqb _ 1 c.if-edition-ne1.true)
+    rw (h.whole, ← h.edition, ne_eqb _ 1 c.if-edition-ne-EDITION.true)
 
 pub vertices-requires : goal.vertices-requires
 vertices-requires c =
     let held : WholeHead c.args.s.now c.in-Whole.edition c.in-Whole.head = whole_head _ _ _ (sym c.head_group.ensures ∙ c.in-Whole.is) in
     rw held.head (head_small _)
 
-pub returns-then-vertices-gt16384 : goal.returns-then-vertices-gt16384
+pub returns-then-vertices-gt-MOST_VERTICES : goal.returns-then-vertices-gt-MOST_VERTICES
 unfolding read_head ◌>>◌ rule head_read
-returns-then-vertices-gt16384 c =
+returns-then-vertices-gt-MOST_VERTICES c =
     let held : WholeHead c.args.s.now c.in-Whole.edition c.in-Whole.head = whole_head _ _ _ (sym c.head_group.ensures ∙ c.in-Whole.is) in
     let counted : c.vertices.result ≡ vertices (head_at (bits_of c.args.s.now) 0).grid = c.vertices.ensures ∙ ap (λ (h : Head). vertices (grid_of h.grid)) held.head in
     let h = held in
-    rw (h.whole, ← h.edition, eq-eqb _ 1 c.if-edition-ne1.false, ← counted, lt-leb _ 16384 c.if-vertices-gt16384.true)
+    rw (h.whole, ← h.edition, eq-eqb _ 1 c.if-edition-ne-EDITION.false, ← counted, lt-leb _ 16384 c.if-vertices-gt-MOST_VERTICES.true)
 
 pub returns : goal.returns
 unfolding read_head ◌>>◌ rule head_read
@@ -41,5 +41,5 @@ returns c =
     let held : WholeHead c.args.s.now c.in-Whole.edition c.in-Whole.head = whole_head _ _ _ (sym c.head_group.ensures ∙ c.in-Whole.is) in
     let counted : c.vertices.result ≡ vertices (head_at (bits_of c.args.s.now) 0).grid = c.vertices.ensures ∙ ap (λ (h : Head). vertices (grid_of h.grid)) held.head in
     let h = held in
-    rw (h.whole, ← h.edition, eq-eqb _ 1 c.if-edition-ne1.false, ← counted, le-leb _ 16384 c.if-vertices-gt16384.false)
+    rw (h.whole, ← h.edition, eq-eqb _ 1 c.if-edition-ne-EDITION.false, ← counted, le-leb _ 16384 c.if-vertices-gt-MOST_VERTICES.false)
     (ap HeadRead.Good h.head)

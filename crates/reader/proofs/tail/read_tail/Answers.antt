@@ -37,18 +37,18 @@ returns-then-end-at c =
     let none : length a.s.now * 8 - a.at ≡ 0 = omega arith in
     rw (short a.s.now a.at (omega arith), none)
 
-pub returns-then-left-ge8 : goal.returns-then-left-ge8
+pub returns-then-left-ge-BYTE : goal.returns-then-left-ge-BYTE
 unfolding many_reached
-returns-then-left-ge8 c = rw (long _ _ c.if-left-ge8.true)
+returns-then-left-ge-BYTE c = rw (long _ _ c.if-left-ge-BYTE.true)
 
 pub returns-then-tail-ne0 : goal.returns-then-tail-ne0
 unfolding rule many_reached
 returns-then-tail-ne0 c =
     let value = ap (λ (t : FieldRead). t.value) c.field-tail.ensures in
-    rw (short _ _ c.if-left-ge8.false, ← value, ne_eqb _ _ c.if-tail-ne0.true)
+    rw (short _ _ c.if-left-ge-BYTE.false, ← value, ne_eqb _ _ c.if-tail-ne0.true)
 
 pub returns : goal.returns
 unfolding rule many_reached
 returns c =
     let value = ap (λ (t : FieldRead). t.value) c.field-tail.ensures in
-    rw (short _ _ c.if-left-ge8.false, ← value, eq-eqb _ _ c.if-tail-ne0.false)
+    rw (short _ _ c.if-left-ge-BYTE.false, ← value, eq-eqb _ _ c.if-tail-ne0.false)
