@@ -5,6 +5,9 @@ ghost use Rattle.counts.specs.Structs.{plus, over_at, added_of, left_of};
 
 use crate::moves::{COUNTS, KINDS};
 
+// So many counts are tested before any is added: all.
+const TESTED: usize = COUNTS;
+
 // All were added; or 19 with its place, and none was.
 #[derive(Clone, Copy)]
 pub enum Added {
@@ -45,7 +48,7 @@ pub fn add_counts(report: &mut [u64], counts: &[usize; 48]) -> Added
         return Added::Refused(19, 8);
     }
     let over = first_over(report, counts);
-    if over < COUNTS {
+    if over < TESTED {
         return Added::Refused(19, over / KINDS);
     }
     add_all(report, counts);

@@ -34,7 +34,8 @@ pub fn read_start(plan: &[u8], grid: Grid, spots: &[u8; 16384], at: usize) -> St
         return StartRead::Refused(16, at);
     }
     let number = grid.number(vertex);
-    if spots[number] != ON_TREE {
+    let tree = ON_TREE;
+    if spots[number] != tree {
         return StartRead::Refused(16, at);
     }
     let count = Cursor { at: at + 19 };

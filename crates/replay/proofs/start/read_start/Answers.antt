@@ -36,11 +36,11 @@ pub bounds-spots-number : goal.bounds-spots-number
 bounds-spots-number c =
     omega (arith, inside_below _ _ (sym c.inside.ensures ∙ c.if-not-inside.false), c.number-number.ensures, c.requires.0.vertices)
 
-pub returns-then-spots-number-ne-ON_TREE : goal.returns-then-spots-number-ne-ON_TREE
+pub returns-then-spots-number : goal.returns-then-spots-number
 unfolding start_read
-returns-then-spots-number-ne-ON_TREE c =
+returns-then-spots-number c =
     let w = is_whole 39 _ _ c.whole.ensures c.if-not-whole.false-raw in
-    rw (start_off _ _ _ _ w (vertex_read _ _ w c.vertex_group.ensures c.in-Whole.is) (sym c.inside.ensures ∙ c.if-not-inside.false) c.number-number.ensures c.if-spots-number-ne-ON_TREE.true) refl
+    rw (start_off _ _ _ _ w (vertex_read _ _ w c.vertex_group.ensures c.in-Whole.is) (sym c.inside.ensures ∙ c.if-not-inside.false) c.number-number.ensures c.if-spots-number.true) refl
 
 pub overflow_add-count : goal.overflow_add-count
 overflow_add-count c = omega (arith, c.requires.1)
@@ -57,10 +57,10 @@ pub returns-then-moves-lt1 : goal.returns-then-moves-lt1
 unfolding start_read
 returns-then-moves-lt1 c =
     let w = is_whole 39 _ _ c.whole.ensures c.if-not-whole.false-raw in
-    rw (start_none _ _ _ _ w (vertex_read _ _ w c.vertex_group.ensures c.in-Whole.is) (sym c.inside.ensures ∙ c.if-not-inside.false) c.number-number.ensures c.if-spots-number-ne-ON_TREE.false (ap (λ (t : FieldRead). t.value) c.field-moves.ensures) c.if-moves-lt1.true) refl
+    rw (start_none _ _ _ _ w (vertex_read _ _ w c.vertex_group.ensures c.in-Whole.is) (sym c.inside.ensures ∙ c.if-not-inside.false) c.number-number.ensures c.if-spots-number.false (ap (λ (t : FieldRead). t.value) c.field-moves.ensures) c.if-moves-lt1.true) refl
 
 pub returns : goal.returns
 unfolding start_read
 returns c =
     let w = is_whole 39 _ _ c.whole.ensures c.if-not-whole.false-raw in
-    rw (start_whole _ _ _ _ w (vertex_read _ _ w c.vertex_group.ensures c.in-Whole.is) (sym c.inside.ensures ∙ c.if-not-inside.false) c.number-number.ensures c.if-spots-number-ne-ON_TREE.false (ap (λ (t : FieldRead). t.value) c.field-moves.ensures) c.if-moves-lt1.false) refl
+    rw (start_whole _ _ _ _ w (vertex_read _ _ w c.vertex_group.ensures c.in-Whole.is) (sym c.inside.ensures ∙ c.if-not-inside.false) c.number-number.ensures c.if-spots-number.false (ap (λ (t : FieldRead). t.value) c.field-moves.ensures) c.if-moves-lt1.false) refl
