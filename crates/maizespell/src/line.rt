@@ -9,6 +9,9 @@ use reader::layers::largest_least;
 use reader::whole::read_job;
 use router::routing_call::maizespell_routing;
 
+// A job that is routed has no more vertices.
+const MOST_VERTICES: usize = 256;
+
 // The plan, or a refusal of routing.
 fn routed_line(bytes: &[u8], line: &mut [u8]) -> usize
     requires { 196609 ≤ length line.old }
@@ -29,7 +32,7 @@ fn good_line(bytes: &[u8], line: &mut [u8], vertices: usize, largest: usize) -> 
     requires { 196609 ≤ length line.old }
     ensures { Written line.old line.new result (good_line bytes.now vertices largest) }
 {
-    if 256 < vertices {
+    if MOST_VERTICES < vertices {
         return put_too_large(line);
     }
     if 7 < largest {

@@ -61,7 +61,8 @@ pub fn settle(
     let mut settled = 0;
     while 0 < front.size {
         let top = key_at(work, n, 0) - 1;
-        if 16 * front.best <= top {
+        let ended = 16 * front.best <= top;
+        if ended {
             return Found {
                 size: front.size,
                 settled,

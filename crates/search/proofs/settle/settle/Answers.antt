@@ -24,17 +24,17 @@ key_at-top-requires c = least_asked c.places-n.ensures c.loop-front.invariant.0 
 pub overflow_sub-top : goal.overflow_sub-top
 overflow_sub-top c = least_some c.places-n.ensures c.loop-front.invariant.0 c.loop-front-test.true c.key_at-top.ensures
 
-pub overflow_mul-front : goal.overflow_mul-front
-overflow_mul-front c = omega (arith, c.loop-front.invariant.0.spread.bound)
+pub overflow_mul-ended : goal.overflow_mul-ended
+overflow_mul-ended c = omega (arith, c.loop-front.invariant.0.spread.bound)
 
-pub returns-then-front-top : goal.returns-then-front-top
-returns-then-front-top c =
+pub returns-then-ended : goal.returns-then-ended
+returns-then-ended c =
     let counted = c.places-n.ensures in
     let key = c.key_at-top.ensures in
     let inv = c.loop-front.invariant in
     let one = least_some counted inv.0 c.loop-front-test.true key in
     record {
-      found = ended_best _ _ _ c.requires.0.good inv.0 counted one key c.if-front-top.true;
+      found = ended_best _ _ _ c.requires.0.good inv.0 counted one key (omega (arith, c.if-ended.true));
       kept = beyond_trans inv.1 c.seed.ensures.kept;
     }
 
