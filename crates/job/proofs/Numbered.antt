@@ -2,7 +2,7 @@
 -- retired.
 --     in_use, refuses                      the numbers that a call may answer, and those that refuse
 --     Numbered                            of what reading answers
---     rule_numbered, then-, bind-         of rules and of what follows them
+--     rule_numbered, then_, bind_         of rules and of what follows them
 --     numbered_some, numbered_used        so a refusal's number is not 0, and is in use
 --     job_numbered                        of reading a job
 use Prim.Native.Nat.{ℕ, zero, suc, ◌+◌, ◌≤◌}

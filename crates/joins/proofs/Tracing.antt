@@ -8,7 +8,7 @@
 --                                                    is one
 --     on_lowest, on_next                             there the lead tells the move that is followed, and it
 --                                                    leads to a goal or on to such a place
---     Counting, counting_begun, -room, -on, -done    the moves so far, then the rest, are the route
+--     Counting, counting_begun, _room, _on, _done    the moves so far, then the rest, are the route
 use Prim.Native.Nat.{ℕ, suc, ◌+◌, ◌-◌, ◌^◌, ◌<◌}
 use mathlib.Core.Path.{◌≡◌, sym, ap, ◌∙◌}
 use mathlib.Core.List.{List, ◌∷◌}

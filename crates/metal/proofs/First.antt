@@ -3,7 +3,7 @@
 --                                                         others
 --     metal_none, metal_all                               of no net, and of all
 --     metal_more, metal_known                             of one more, which has its list
---     PinsLaid, pins_begun, -here, -asked, -on, -done     the loop that lays them
+--     PinsLaid, pins_begun, _here, _asked, _on, _done     the loop that lays them
 --     number_below                                        a net's number is at most 255
 use Prim.Native.Nat.{ℕ, zero, suc, ◌+◌, ◌-◌, ◌≤◌, ◌<◌}
 use mathlib.Core.Path.{◌≡◌, refl, sym, ap, ◌∙◌}

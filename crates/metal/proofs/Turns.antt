@@ -1,8 +1,8 @@
 -- Turns of the loops that store into a slice.
---     Zeroing, zeroing_begun, -on, -done                  making entries zero
---     Putting, putting_begun, -on, -past, -done           putting obstacles in
---     Running, running_begun, -next, -on, -done           laying a run
---     Laying, laying_begun, -below, -on, -done            laying pins
+--     Zeroing, zeroing_begun, _on, _done                  making entries zero
+--     Putting, putting_begun, _on, _past, _done           putting obstacles in
+--     Running, running_begun, _next, _on, _done           laying a run
+--     Laying, laying_begun, _below, _on, _done            laying pins
 use Prim.Native.Nat.{ℕ, suc, ◌+◌, ◌-◌, ◌≤◌, ◌<◌}
 use mathlib.Core.Path.{◌≡◌, refl, sym, ap, ◌∙◌}
 use mathlib.Core.List.{List}

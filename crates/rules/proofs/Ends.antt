@@ -3,9 +3,9 @@
 --     EndRead, end_read                  what the code has read of an end
 --     Back, way_back                     how far the first vertex lies back
 --     reached                            how many clear vertices lie beyond the ends so far
---     leaving-, starting-, ends_count    beyond the leaving end, the starting end and both
---     Counted, counted-begun, -on,       so many ends are counted
---         -within, -done
+--     leaving_, starting_, ends_count    beyond the leaving end, the starting end and both
+--     Counted, counted-begun, _on,       so many ends are counted
+--         _within, _done
 --     run_whole                          a clear run is as long as it is
 use Prim.Native.Nat.{ℕ, zero, suc, ◌+◌, ◌-◌, ◌*◌, ◌≤◌, ◌<◌, min}
 use mathlib.Core.Path.{◌≡◌, refl, sym, ap, ◌∙◌}

@@ -26,7 +26,6 @@
 --     Runs           counting the clear vertices beyond a vertex
 --     Ends           the two ends of a segment, and the clear vertices beyond them
 --     Owed           what the code's overheads mean
---     Lent           the totals behind a `&mut`: the steps that the walks by hand share
 --     Certificates   a table of costs as data, shown to be a table by a test
 pub mod Vertices
 pub mod Neighbours

@@ -3,7 +3,7 @@
 --     Counting, counting_begun        the count so far
 --     counting_next                   the next vertex to count
 --     counting_on                     one clear vertex more
---     counting_unclear, -full         the count is done
+--     counting_unclear, _full         the count is done
 use Prim.Native.Nat.{ℕ, suc, ◌+◌, ◌-◌, ◌≤◌, ◌<◌, min}
 use mathlib.Core.Path.{◌≡◌, sym, ap, ◌∙◌}
 use mathlib.Core.Bool.{true, false}

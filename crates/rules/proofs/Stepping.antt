@@ -1,6 +1,6 @@
 -- What the code's steps mean.
 --     along_back, along_to                                        a step along the track
---     owed_nothing, -lengthened, -penalised, -forbidden, -closed  a via move, by what it owes
+--     owed_nothing, _lengthened, _penalised, _forbidden, _closed  a via move, by what it owes
 --     step_shut, step_open                                        one move
 use Prim.Native.Nat.{ℕ, ◌*◌}
 use mathlib.Core.Path.{◌≡◌, refl, sym, ap, ◌∙◌}

@@ -1,5 +1,5 @@
 -- One settled place is asked for a lead, in the code's words.
---     item_place, -key, -distance, -lowest     the place of a number, and its lowest move that leads on
+--     item_place, _key, _distance, _lowest     the place of a number, and its lowest move that leads on
 --     led_cost                                 a lead changes no cost
 --     asked_not, asked_led                     no move leads on, or one does
 --     answered_not, answered_led               with the lower start

@@ -5,8 +5,8 @@
 --     segment_short, code_asked           what its segment and its number are asked for
 --     code_made, code_here                the number that the code makes; it is in the work slice
 --     next_left, next_small               what is left from the place that a move leads to; it is small
---     start_asked, -made, -below, -left   the place where a join starts
---     settled_here, -short, -fields       what is asked of a settled place
+--     start_asked, _made, _below, _left   the place where a join starts
+--     settled_here, _short, _fields       what is asked of a settled place
 --     Led, led, led_not                   what a legal move from it leads to; one not legal is blocked
 use Prim.Native.Nat.{ℕ, ◌+◌, ◌^◌, ◌≤◌, ◌<◌}
 use mathlib.Core.Path.{◌≡◌, refl, sym, ap, ◌∙◌}

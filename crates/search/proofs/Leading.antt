@@ -1,7 +1,7 @@
 -- The moves of cheapest joins, in the code's words.
 --     lead_stopped, lead_goal               whether a move leads to a goal at the best cost
 --     lead_bare, lead_led                   or on to a lead
---     Untried, untried_begun, -on, -skip    so far no move does
+--     Untried, untried_begun, _on, _skip    so far no move does
 --     untried_here, untried_none            the first that does; none does
 use Prim.Native.Nat.{ℕ, zero, suc, ◌+◌, ◌*◌, ◌/◌, ◌%◌, ◌≤◌, ◌<◌}
 use mathlib.Core.Path.{◌≡◌, refl, sym, ◌∙◌}

@@ -1,7 +1,7 @@
 -- The moves that enter a vertex get their bits: each may lead on to it.
 --     none_entered, one_entered, one_lit      the bit of the move back is set where a move enters
 --     lit_stays, lit_long                     and those that were set stay so
---     Lighting, lighting_begun, -on, -done    the moves that enter a vertex, one after the other
+--     Lighting, lighting_begun, _on, _done    the moves that enter a vertex, one after the other
 use Prim.Native.Nat.{ℕ, zero, suc, ◌+◌, ◌-◌, ◌*◌, ◌%◌, ◌≤◌, ◌<◌}
 use mathlib.Core.Path.{◌≡◌, refl, sym, subst, ◌∙◌}
 use mathlib.Core.List.{List}

@@ -2,7 +2,7 @@
 --     via_passed                       a via that is passed over lowers no key, whatever it owes
 --     attempt_told, attempt_passed     a move that was tried, and one that was passed over
 --     attempt_to                       a move that leads to a place
---     reach_stopped, -enters, -goes    what trying it does
+--     reach_stopped, _enters, _goes    what trying it does
 --     reach_not                        one that leads nowhere, or is passed over, does nothing
 --     no_goals_lem                         while places are settled, no place with a key lies on an unjoined pin
 use Prim.Native.Nat.{ℕ, suc, ◌+◌, ◌*◌, ◌≤◌, ◌<◌, min}

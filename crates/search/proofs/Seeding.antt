@@ -1,8 +1,8 @@
 -- The tree put into the heap, vertex by vertex.
 --     none_done                                    before any place is settled none is done
---     seeding_begun, -next, -skip, -done           so far
---     Flagged, flagged_begun, -on, -none           whether a block of bytes has one that is not 0
---     Blocked, blocked_begun, -on, -long, -done    the vertices of a block
+--     seeding_begun, _next, _skip, _done           so far
+--     Flagged, flagged_begun, _on, _none           whether a block of bytes has one that is not 0
+--     Blocked, blocked_begun, _on, _long, _done    the vertices of a block
 use Prim.Native.Nat.{ℕ, suc, ◌+◌, ◌%◌, ◌≤◌, ◌<◌, min}
 use mathlib.Core.Path.{◌≡◌, refl, sym, ap, ◌∙◌}
 use mathlib.Core.Logic.{◌⊎◌, inl, inr}

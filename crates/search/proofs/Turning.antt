@@ -1,6 +1,6 @@
 -- The moves of a place that is settled, in the code's words.
 --     turn_on                                        one more move is tried
---     Trying, trying_begun, -now, -small, -on        the moves so far
+--     Trying, trying_begun, _now, _small, _on        the moves so far
 --     distance_by                                    the cost by the key
 use Prim.Native.Nat.{ℕ, suc, ◌+◌, ◌-◌, ◌*◌, ◌/◌, ◌≤◌, ◌<◌, min}
 use mathlib.Core.Path.{◌≡◌, refl, ◌∙◌}

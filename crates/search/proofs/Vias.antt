@@ -1,5 +1,5 @@
 -- What the code asks for a via from a settled place.
---     fresh_asked, -made, -here, -left, -small             the fresh place that it enters
+--     fresh_asked, _made, _here, _left, _small             the fresh place that it enters
 --     closed_owed, price_small, price_owed, field_small    the field of what it owes
 use Prim.Native.Nat.{ℕ, ◌^◌, ◌≤◌, ◌<◌}
 use mathlib.Core.Path.{◌≡◌, sym, ap, ◌∙◌}

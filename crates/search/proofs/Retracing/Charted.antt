@@ -1,7 +1,7 @@
 -- All settled places were asked.
 --     settled_in                                    a place within the best cost that the search came to is
 --                                                   settled
---     retracing_charted, retracing_lowest, -kept    what retracing leaves
+--     retracing_charted, retracing_lowest, _kept    what retracing leaves
 use Prim.Native.Nat.{ℕ, ◌+◌, ◌≤◌, ◌<◌}
 use mathlib.Core.Path.{◌≡◌, refl, sym, ap, subst, ◌∙◌}
 use mathlib.Core.Logic.{◌⊎◌, inl, inr}

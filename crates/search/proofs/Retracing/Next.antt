@@ -1,5 +1,5 @@
 -- The next place of the list, which is asked for a lead.
---     retracing_fits, -read, -asked      it is read, and what asking it needs
+--     retracing_fits, _read, _asked      it is read, and what asking it needs
 --     Next, next_by                      the place
 --     next-..                            it is settled, its cost, and that no other has its number
 --     lead_was, lead_is                  what the entries say of a move, in the costs before the first lead

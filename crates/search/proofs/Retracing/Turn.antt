@@ -1,7 +1,7 @@
 -- One place was asked: the moves that enter it have their bits, and the lowest start is known.
 --     from_good, from_start      the end of a walk is a good place, and a start where the walk costs nothing
 --     retracing_with             it has a lead, with the lowest start that has one
---     retracing_inner, -start    it costs something and is no start, or nothing and is one
+--     retracing_inner, _start    it costs something and is no start, or nothing and is one
 --     retracing_on               it was asked
 use Prim.Native.Nat.{ℕ, suc, ◌-◌, ◌≤◌, ◌<◌, min}
 use mathlib.Core.Path.{◌≡◌, refl, sym, ap, ◌∙◌}
