@@ -25,7 +25,8 @@ pub fn read_pin(s: &[u8], grid: Grid, at: usize, occupants: &mut [u8; 16384]) ->
     }
     let vertex = grid.number(pin);
     let occupant = occupants[vertex];
-    if occupant == OBSTACLE {
+    let blocked = OBSTACLE;
+    if occupant == blocked {
         return Reached::Refused(8, at);
     }
     let earlier = PIN;

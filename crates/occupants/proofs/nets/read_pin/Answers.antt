@@ -27,11 +27,11 @@ bounds-occupants-vertex c =
     index_below c.args.grid _ _ c.requires.0
     (sym c.inside.ensures ∙ c.if-not-inside.false) c.number-vertex.ensures
 
-pub returns-then-occupant-eq-OBSTACLE : goal.returns-then-occupant-eq-OBSTACLE
-returns-then-occupant-eq-OBSTACLE c =
+pub returns-then-occupant-blocked : goal.returns-then-occupant-blocked
+returns-then-occupant-blocked c =
     let all = told_refused
     ((pin_rules _ _ _ _ _ (sym c.vertex_group.ensures ∙ c.in-Whole.is)).blocked _
-    (sym c.inside.ensures ∙ c.if-not-inside.false) c.number-vertex.ensures c.if-occupant-eq-OBSTACLE.true) in
+    (sym c.inside.ensures ∙ c.if-not-inside.false) c.number-vertex.ensures c.if-occupant-blocked.true) in
     record { answer = all.0; occupants = all.1 }
 
 pub returns-then-occupant-earlier : goal.returns-then-occupant-earlier
@@ -50,5 +50,5 @@ pub returns : goal.returns
 returns c =
     let all = told_at
     ((pin_rules _ _ _ _ _ (sym c.vertex_group.ensures ∙ c.in-Whole.is)).fine _
-    (sym c.inside.ensures ∙ c.if-not-inside.false) c.number-vertex.ensures c.if-occupant-eq-OBSTACLE.false c.if-occupant-earlier.false) in
+    (sym c.inside.ensures ∙ c.if-not-inside.false) c.number-vertex.ensures c.if-occupant-blocked.false c.if-occupant-earlier.false) in
     record { answer = all.0; occupants = all.1 }
