@@ -1,6 +1,5 @@
 -- `occupants::obstacles::obstacle_inside` meets its contract: the first vertex is inside, and its track has
 -- room for the run.
--- past the first test, the first vertex is inside
 use mathlib.Core.Path.{◌≡◌, sym, ◌∙◌}
 use mathlib.Core.Bool.{true}
 use native.Mathlib.Omega.{arith}

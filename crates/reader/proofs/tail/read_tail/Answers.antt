@@ -1,6 +1,5 @@
 -- `reader::tail::read_tail` meets its contract: where fewer than eight bits are left, the field of all of
 -- them says whether they are zero.
--- eight bits or more are left: the tail is refused
 use Prim.Native.Nat.{ℕ, ◌-◌, ◌*◌, ◌≤◌, ◌<◌}
 use borrow.Author.Tests.{lt-ltb, le-ltb, eq-eqb, ne_eqb}
 use mathlib.Core.List.{List}
@@ -16,6 +15,7 @@ use Rattle.job.specs.Reading.{read_tail, rule, refused}
 use Rattle.occupants.specs.Structs.{many_reached}
 use Rattle.reader.proofs.tail.read_tail.Goals as goal
 
+-- eight bits or more are left: the tail is refused
 long : (bytes : List ℕ) (at : ℕ) → 8 ≤ length bytes * 8 - at → read_tail (bits_of bytes) at ≡ refused 11 at
 unfolding read_tail rule
 long bytes at h = rw (le-ltb (length (bits_of bytes) - at) 8 (omega (arith, length-bits_of bytes)))

@@ -1,5 +1,4 @@
 -- `rules::end::end_on` meets its contract.
--- every end but the first is the starting end
 use native.Mathlib.Omega.{arith}
 use Prim.Native.Nat.{ℕ, zero, suc}
 use mathlib.Core.Path.{◌≡◌, refl, sym, ◌∙◌}
@@ -9,6 +8,7 @@ use Rattle.rules.specs.declared.track.Track.{Track}
 use Rattle.rules.proofs.Fitting.{track_known}
 use Rattle.rules.proofs.end.end_on.Goals as goal
 
+-- every end but the first is the starting end
 later_end : (track : Track) (v : ℕ) (d : Direction) (n which : ℕ) → (which ≡ 0 → ⊥) → end_on track v d n which ≡ end_on track v d n 1
 unfolding end_on
 later_end track v d n zero ne = absurd (ne refl)

@@ -1,5 +1,4 @@
 -- `rules::end::starting_end` meets its contract.
--- how far the first vertex lies back, by what the code computes
 use Prim.Native.Nat.{ℕ, ◌*◌, ◌≤◌, ◌<◌, min}
 use mathlib.Core.Path.{◌≡◌, refl, ap, ◌∙◌}
 use native.Mathlib.Omega.{arith}
@@ -15,6 +14,7 @@ use Rattle.rules.proofs.Fitting.{fits, track_known}
 use Rattle.rules.proofs.Ends.{way_back}
 use Rattle.rules.proofs.end.starting_end.Goals as goal
 
+-- how far the first vertex lies back, by what the code computes
 record Way (track : Track) (v steps : ℕ) (back : Direction) : Type 0 where
   vertex : v < 524288
   near : steps * track.stride < 524288

@@ -1,5 +1,4 @@
 -- `rules::list::extra_field` meets its contract: what closes the vertex is read first.
--- the field by what the code has read: whether the vertex is closed, and the guide penalty
 use Prim.Native.Nat.{ℕ, ◌/◌, ◌%◌}
 use mathlib.Core.Path.{◌≡◌, refl}
 use mathlib.Core.Bool.{Bool, ◌||◌, cond}
@@ -11,6 +10,7 @@ use Rattle.rules.specs.Seen.{holds}
 use Rattle.rules.specs.PriceLists.{outside_field, extra_field}
 use Rattle.rules.proofs.list.extra_field.Goals as goal
 
+-- the field by what the code has read: whether the vertex is closed, and the guide penalty
 field_by : (guide short byte : ℕ) {outside : ℕ} {closed : Bool} → outside ≡ outside_field guide byte
     → (eqb (byte % 2) 1 || eqb outside closed_price) ≡ closed → cond closed closed_price (cond (holds 2 byte) short outside) ≡ extra_field guide short byte
 unfolding extra_field holds

@@ -1,5 +1,4 @@
 -- `rules::overhead::otherwise` meets its contract.
--- a closed area penalty forbids
 use Prim.Native.Nat.{ℕ}
 use mathlib.Core.Path.{◌≡◌, refl, sym, ◌∙◌}
 use mathlib.Core.List.{[]}
@@ -12,6 +11,7 @@ use Rattle.rules.specs.Overheads.{forbidden, owes, otherwise}
 use Rattle.rules.specs.Structs.{overhead_by, FewMissing, WholeOverhead}
 use Rattle.rules.proofs.overhead.otherwise.Goals as goal
 
+-- a closed area penalty forbids
 closed_forbids : (area : ℕ) → penalty_of area ≡ Closed → forbidden ≡ otherwise area
 unfolding penalty_of otherwise
 closed_forbids area e = by (eqb area closed_price) e

@@ -1,5 +1,4 @@
 -- `rules::overhead::overhead_of` meets its contract.
--- its M is small
 use Prim.Native.Nat.{ℕ, ◌<◌}
 use mathlib.Core.Path.{◌≡◌, refl, ap, ◌∙◌}
 use mathlib.Core.List.{List}
@@ -20,6 +19,7 @@ use Rattle.rules.proofs.PriceLists.{line_told}
 use Rattle.rules.proofs.Owed.{Owing, short_told}
 use Rattle.rules.proofs.overhead.overhead_of.Goals as goal
 
+-- its M is small
 few_least : {t : TechStruct} {prices : List ℕ} {v : ℕ} {from : VertexStruct} {line : Layer} → Here t prices v from
     → line ≡ layer_struct (line_of (tech_by t) v) → line.least < 16
 few_least here is = omega (arith, ap (λ (l : Layer). l.least) is, (line_fits here.fits here.there).min_length)

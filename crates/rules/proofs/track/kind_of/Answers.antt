@@ -1,5 +1,4 @@
 -- `rules::track::kind_of` meets its contract.
--- every number past 2 goes up
 use native.Mathlib.Omega.{arith}
 use Prim.Native.Nat.{ℕ, zero, suc}
 use mathlib.Core.Path.{◌≡◌, refl, sym}
@@ -7,6 +6,7 @@ use Rattle.rules.specs.Segments.{up, kind_of}
 use Rattle.rules.specs.Structs.{direction_of, kind_by}
 use Rattle.rules.proofs.track.kind_of.Goals as goal
 
+-- every number past 2 goes up
 later_up : (number : ℕ) → (number ≡ 0 → ⊥) → (number ≡ 1 → ⊥) → (number ≡ 2 → ⊥) → kind_of number ≡ up
 unfolding kind_of
 later_up zero not0 not1 not2 = absurd (not0 refl)
