@@ -1,9 +1,9 @@
 -- Bits and bytes, most significant bit first. A bit is the number 0 or 1, a byte a number below 256.
 -- Specification: sections 1.7 and 4.1.
---     field_bits, number     the bits of a number in a field, and the number that bits write
---     bits_of, pack_bits      the bits of bytes; bits as bytes, zero bits filling the last byte
+--     field_bits, number    the bits of a number in a field, and the number that bits write
+--     bits_of, pack_bits    the bits of bytes; bits as bytes, zero bits filling the last byte
 --     field, whole          the number in a field at a bit position; whether all its bits are there
---     group_bits             the bits of fields, one after the other
+--     group_bits            the bits of fields, one after the other
 -- Not here: bits put into bytes (Puts), and the form in which the code answers (Cursors). The laws are in
 -- proofs/Laws.antt.
 use Rattle.std.specs.Prelude.{ℕ, zero, suc, ◌+◌, ◌*◌, ◌/◌, ◌%◌, ◌^◌, List, [], ◌∷◌, ◌++◌, Bool, length, take, drop, replicate, leb}

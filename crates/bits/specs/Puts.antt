@@ -1,6 +1,6 @@
 -- Bits put into bytes, and lists whose numbers are all small.
---     put_bits      bits put into bytes from a bit position on
---     AllBelow     every number of a list is below a bound: bits below 2, bytes below 256
+--     put_bits    bits put into bytes from a bit position on
+--     AllBelow    every number of a list is below a bound: bits below 2, bytes below 256
 use Rattle.std.specs.Prelude.{ℕ, suc, ◌+◌, ◌-◌, ◌*◌, ◌/◌, ◌%◌, ◌^◌, ◌<◌, List, [], ◌∷◌, get_or, set}
 
 -- A byte in which the bits before a position stay, the bit at the position is b, and those after it are zero.

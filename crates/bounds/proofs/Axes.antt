@@ -1,10 +1,10 @@
 -- An axis of the bound, and the cheapest price.
---     Within                                      a coordinate between the ends of a span
---     leaves_fits, leaves_small                   what a coordinate leaves fits, and is small
---     leaves_none, leaves_next                    nothing inside the span, one price more a step off it
---     axis_size, axis_turn                        an axis changes no length, and one more entry of it
---     axis_told, axis_small                       all of its entries, and all small
---     cheapest_turn, cheapest_fits, cheapest_of_lem   one more price; the lowest is small, and none is lower
+--     Within                                           a coordinate between the ends of a span
+--     leaves_fits, leaves_small                        what a coordinate leaves fits, and is small
+--     leaves_none, leaves_next                         nothing inside the span, one price more a step off it
+--     axis_size, axis_turn                             an axis changes no length, and one more entry of it
+--     axis_told, axis_small                            all of its entries, and all small
+--     cheapest_turn, cheapest_fits, cheapest_of_lem    one more price; the lowest is small, and none is lower
 use Prim.Native.Nat.{ℕ, zero, suc, ◌+◌, ◌-◌, ◌*◌, ◌^◌, ◌≤◌, ◌<◌, min}
 use mathlib.Core.Path.{◌≡◌, refl, ◌∙◌}
 use mathlib.Core.List.{List}

@@ -1,9 +1,8 @@
 -- A vertex and a move by coordinates.
---     vertex_fields_lem                            the coordinates of a vertex lie in their fields' ranges
---     OneOn, Changed, changed                  a move changes one coordinate by one, by its kind
---     bound_along, bound_via                   the bound of the vertex entered, by the coordinates of the one
---                                              left
---     small_sum, bare_small                    what is left is small, and in an array of zeros
+--     vertex_fields_lem          the coordinates of a vertex lie in their fields' ranges
+--     OneOn, Changed, changed    a move changes one coordinate by one, by its kind
+--     bound_along, bound_via     the bound of the vertex entered, by the coordinates of the one left
+--     small_sum, bare_small      what is left is small, and in an array of zeros
 use Prim.Native.Nat.{ℕ, zero, suc, ◌+◌, ◌^◌, ◌≤◌, ◌<◌}
 use mathlib.Core.Path.{◌≡◌, refl, sym, ap, ◌∙◌}
 use mathlib.Core.List.{List}

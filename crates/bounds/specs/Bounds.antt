@@ -1,9 +1,9 @@
 -- A lower bound on what is left from a vertex to the nearest unjoined pin, times 15, as the code holds it: an
 -- entry for each row, column and layer.
---     sum_at, sum_along      what a row, a column and a layer leave, and that a step on
---     bound_of, bound_at     what is left at least, by coordinates and by the vertex's number
---     SmallBounds          so small that the code's sums fit
---     Bounding             it is such a bound
+--     sum_at, sum_along     what a row, a column and a layer leave, and that a step on
+--     bound_of, bound_at    what is left at least, by coordinates and by the vertex's number
+--     SmallBounds           so small that the code's sums fit
+--     Bounding              it is such a bound
 use Rattle.std.specs.Prelude.{ℕ, ◌+◌, ◌*◌, ◌^◌, ◌≤◌, ◌<◌, ◌≡◌, List, Bool, cond, get_or}
 use Rattle.job.specs.Grid.{Grid, Vertex, vertices}
 use Rattle.paths.specs.Systems.{to}

@@ -1,10 +1,10 @@
 -- How the bound is made: the box of the unjoined pins, the cheapest prices, and a table filled from both.
 --     Among                          every unjoined pin is one of the net's pins
---     span_with, box_with              a span that takes in one more coordinate, a box that takes in one more
+--     span_with, box_with            a span that takes in one more coordinate, a box that takes in one more
 --                                    vertex
---     nowhere, unjoined_box           the empty span, and the box of the unjoined ones of the first pins
---     cheapest_of                     the lowest of the first prices
---     leaves, axis_filled, filled     what a coordinate leaves, a table with the entries of an axis, and with
+--     nowhere, unjoined_box          the empty span, and the box of the unjoined ones of the first pins
+--     cheapest_of                    the lowest of the first prices
+--     leaves, axis_filled, filled    what a coordinate leaves, a table with the entries of an axis, and with
 --                                    those of all three
 use Rattle.std.specs.Prelude.{ℕ, zero, suc, ◌+◌, ◌-◌, ◌*◌, ◌<◌, min, max, ◌≡◌, List, true, cond, get_or, set, take, eqb}
 use Rattle.job.specs.Lists.{All}

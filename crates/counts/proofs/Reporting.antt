@@ -1,6 +1,6 @@
 -- The loops over a report and a plan's counts.
 --     over_turn, over_found, over_done     looking for a count that would not fit
---     none_over_lem, none_fits                 where none is found, every sum fits
+--     none_over_lem, none_fits             where none is found, every sum fits
 --     AddedTo, added_turn, added_done      adding them, one after the other
 --     room_counted, room_number, room_long
 --                                          room for the counts of a plan; 19 without; it is long enough

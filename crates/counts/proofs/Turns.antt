@@ -1,5 +1,5 @@
 -- The counts of moves, with one move more at the end.
---     end_of, end_then     the vertex that they end at
+--     end_of, end_then    the vertex that they end at
 --     walk_then           their counts
 --     counted_then        a report with these added
 --     move_fit            how large its numbers grow

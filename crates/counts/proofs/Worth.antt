@@ -1,8 +1,9 @@
 -- What counts cost: a report with them added is worth so much more.
---     worth_empty                        an empty report is worth nothing
+--     worth_empty                          an empty report is worth nothing
 --     counts_worth, counts_worth_append    what counts cost; those of two lists
---     worth-counted                      a report with counts added
---     prices_at, cost_of                  the price at a layer and a kind; what counts cost by a job's prices
+--     worth-counted                        a report with counts added
+--     prices_at, cost_of                   the price at a layer and a kind; what counts cost by a job's
+--                                          prices
 use Prim.Native.Nat.{ℕ, zero, suc, ◌+◌, ◌*◌, ◌<◌}
 use mathlib.Core.Path.{◌≡◌, refl, sym, ◌∙◌}
 use mathlib.Core.List.{List, [], ◌∷◌, ◌++◌, flat_map}

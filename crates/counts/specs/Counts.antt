@@ -1,10 +1,10 @@
 -- The wire report: what is counted of a plan, layer by layer.
 -- Specification: section 6.5.
---     kinds, steps, vias, ..              the kinds of counts of a layer
---     Count, count, counted               so many of a kind, and a report with counts added
---     move_counts, walk_counts              of a move, and of the moves of a join
---     record_counts, plan_counts            of a record, and of a plan
---     count_prices, worth                  what each costs by the job's prices, and all of them
+--     kinds, steps, vias, ..        the kinds of counts of a layer
+--     Count, count, counted         so many of a kind, and a report with counts added
+--     move_counts, walk_counts      of a move, and of the moves of a join
+--     record_counts, plan_counts    of a record, and of a plan
+--     count_prices, worth           what each costs by the job's prices, and all of them
 use Rattle.std.specs.Prelude.{ℕ, ◌+◌, ◌*◌, Bool, cond, not, ◌&&◌, get_or, set, ltb}
 use mathlib.Core.List.{List, [], ◌∷◌, ◌++◌, flat_map}
 use Rattle.job.specs.Grid.{Grid}

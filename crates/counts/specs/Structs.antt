@@ -1,8 +1,8 @@
 -- The forms in which the code holds counts.
 --     CountsFit            no count is above a number
 --     plus                 a report with a plan's counts, number by number
---     over_at               the first that would be too large
---     added_of, left_of      what adding them answers, and the report that it leaves
+--     over_at              the first that would be too large
+--     added_of, left_of    what adding them answers, and the report that it leaves
 use Rattle.std.specs.Prelude.{ℕ, ◌+◌, ◌/◌, ◌≤◌, List, [], ◌∷◌, cond, get_or, ltb}
 use Rattle.job.specs.Reading.{Read, refused, good}
 use Rattle.counts.specs.Counts.{kinds, report_need}

@@ -1,5 +1,5 @@
 -- The item at the front leaves: its slot is the one of items that have left, and nothing else changes.
---     first_of, settled, leaving     the item at the front, an item that has left, and so the first
+--     first_of, settled, leaving    the item at the front, an item that has left, and so the first
 --     cleared                       the slice that is left, with the word of the last seat cleared
 --     FrontLeft, front              what the first item is and was, and the slice with it having left
 --     Out, removed_by               an item is out of the heap, and the others find their seats

@@ -1,5 +1,5 @@
 -- The item at the front removed, w the slice as found: the item leaves, and the last goes to its seat.
---     last_of, filled     the last item, and the slice with it in the seat of the item that has left
+--     last_of, filled    the last item, and the slice with it in the seat of the item that has left
 --     one-..             there was one item
 --     many-..            there were more: the last goes to the front and may sink from there
 --     settle_asked, last_asked, drop_asked, drop_removed, one_done, clear_asked

@@ -4,14 +4,15 @@
 -- of the heap: the key of the item there, and in the slot's stead its number, so that keys are compared in
 -- the heap's words alone. What the items are is not said here.
 --     slots, settled_slot, most_items, greatest_key    the sizes of an entry's parts
---     key_of, slot_of, word_of                         the key and the slot of an entry, and an entry of the two
---     item_at, key_at                                 the item at a seat, and its key
---     above                                         the seat above a seat: four seats are below each
---     Open, In                                      an entry's item is in the heap
---     Seated                                        each item of the heap knows its seat
---     Heaped                                        and none has a lesser key than the one above it
---     Lowered                                       what `lower` does
---     Removed                                       what `remove_least` does
+--     key_of, slot_of, word_of                         the key and the slot of an entry, and an entry of the
+--                                                      two
+--     item_at, key_at                                  the item at a seat, and its key
+--     above                                            the seat above a seat: four seats are below each
+--     Open, In                                         an entry's item is in the heap
+--     Seated                                           each item of the heap knows its seat
+--     Heaped                                           and none has a lesser key than the one above it
+--     Lowered                                          what `lower` does
+--     Removed                                          what `remove_least` does
 use Rattle.std.specs.Prelude.{ℕ, ◌+◌, ◌-◌, ◌*◌, ◌/◌, ◌%◌, ◌≤◌, ◌<◌, ◌≡◌, List, length, get_or}
 
 -- ---- entries

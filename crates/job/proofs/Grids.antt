@@ -1,10 +1,10 @@
 -- Laws of the grid.
---     below, below_inside            a vertex inside is one below the sizes
---     same_eq, same_refl             the test for the same vertex passes at equal vertices alone
---     below_number, number_below     a vertex number is below the number of vertices
---     number_inj                     it says its vertex
---     next_layer, number_next        a step high keeps the layer and adds the stride
---     room_high, all_inside           a run is inside where its first vertex is and the track has room
+--     below, below_inside           a vertex inside is one below the sizes
+--     same_eq, same_refl            the test for the same vertex passes at equal vertices alone
+--     below_number, number_below    a vertex number is below the number of vertices
+--     number_inj                    it says its vertex
+--     next_layer, number_next       a step high keeps the layer and adds the stride
+--     room_high, all_inside         a run is inside where its first vertex is and the track has room
 use Prim.Native.Nat.{ℕ, zero, suc, ◌+◌, ◌-◌, ◌*◌, ◌/◌, ◌%◌, ◌≤◌, ◌<◌}
 use mathlib.Core.Path.{◌≡◌, refl, sym, ap, ◌∙◌}
 use mathlib.Core.Bool.{Bool, true, false, ◌&&◌, cond, and-true}

@@ -1,10 +1,10 @@
 -- A refusal has a number of the specification's table: no rule of a job refuses by 0, or by 7, which is
 -- retired.
---     in_use, refuses                      the numbers that a call may answer, and those that refuse
---     Numbered                            of what reading answers
---     rule_numbered, then_, bind_         of rules and of what follows them
---     numbered_some, numbered_used        so a refusal's number is not 0, and is in use
---     job_numbered                        of reading a job
+--     in_use, refuses                 the numbers that a call may answer, and those that refuse
+--     Numbered                        of what reading answers
+--     rule_numbered, then_, bind_     of rules and of what follows them
+--     numbered_some, numbered_used    so a refusal's number is not 0, and is in use
+--     job_numbered                    of reading a job
 use Prim.Native.Nat.{ℕ, zero, suc, ◌+◌, ◌≤◌}
 use mathlib.Core.Path.{◌≡◌}
 use mathlib.Core.List.{List, [], ◌∷◌, ◌++◌}

@@ -1,10 +1,10 @@
 -- Reading and packing a job undo each other: bytes are read as a good job exactly where they are that job's
 -- packed bytes and it keeps the rules.
---     two_way      the law
---     rules_hold   a job that was read keeps the rules
---     job_bits_lem     the bits of a good job's bytes are its groups, then fewer than eight zero bits
---     net_at        the bit at which a net begins
---     net_at_lem       a net's bits stand there
+--     two_way         the law
+--     rules_hold      a job that was read keeps the rules
+--     job_bits_lem    the bits of a good job's bytes are its groups, then fewer than eight zero bits
+--     net_at          the bit at which a net begins
+--     net_at_lem      a net's bits stand there
 pub mod Places
 mod Many
 pub mod Widths

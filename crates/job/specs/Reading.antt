@@ -2,9 +2,9 @@
 -- reading order is returned, within a group in table order"; a group that is not whole is refused by 2 at its
 -- first bit, before its rules.
 -- Specification: sections 1 and 7.
---     Read, rule, whole_group     what reading answers, and the two ways in which it ends early
---     read_head .. read_tail       one function a group, each at the group's first bit
---     read_job                    from any bytes
+--     Read, rule, whole_group    what reading answers, and the two ways in which it ends early
+--     read_head .. read_tail     one function a group, each at the group's first bit
+--     read_job                   from any bytes
 use Rattle.std.specs.Prelude.{ℕ, zero, suc, ◌+◌, ◌-◌, ◌*◌, List, [], ◌∷◌, ◌++◌, Bool, ◌&&◌, not, cond, length, drop, leb, ltb, eqb}
 use Rattle.bits.specs.Bits.{bits_of, field, whole, number}
 use Rattle.job.specs.Lists.{any, all}

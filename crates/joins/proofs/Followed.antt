@@ -1,5 +1,5 @@
 -- The move that is followed from a place of a cheapest join, in the code's words.
---     goes_on_lem, ends_here               whether the route goes on, as the code asks
+--     goes_on_lem, ends_here           whether the route goes on, as the code asks
 --     lead_read                        the move that a lead tells, as the code reads it
 --     followed_made, followed_legal    what it made while the moves are counted; it is legal
 use Prim.Native.Nat.{ℕ, ◌+◌, ◌%◌}

@@ -1,7 +1,7 @@
 -- What a record leaves, as the code answers it.
---     left_by       the arrays after a record
---     IsJoined     the walk of a join and the bit after its record, or none
---     Written      what the code answers of a record, and what it leaves
+--     left_by     the arrays after a record
+--     IsJoined    the walk of a join and the bit after its record, or none
+--     Written     what the code answers of a record, and what it leaves
 use Rattle.std.specs.Prelude.{ℕ, ◌+◌, ◌*◌, ◌^◌, ◌≤◌, ◌≡◌, List, length}
 use Rattle.bits.specs.Puts.{put_bits}
 use Rattle.rules.specs.Views.{View}

@@ -2,8 +2,8 @@
 --     to_go            the least cost to go from each place
 --     choice_of        the lowest vertex of the tree with the least finite cost to go, or none
 --     route_by         the moves from a vertex: at each place the lowest that keeps the cost to go
---     join_by_spots     the join from the chosen start, or none
---     Told            what a search found tells it
+--     join_by_spots    the join from the chosen start, or none
+--     Told             what a search found tells it
 use Rattle.std.specs.Prelude.{ℕ, ◌≤◌, ◌<◌, ◌≡◌, List}
 use Rattle.job.specs.Grid.{vertices}
 use Rattle.paths.specs.Distances.{dist, follow}

@@ -1,8 +1,9 @@
 -- The line that the program writes, as ASCII codes; a newline ends it.
 -- Specification: section 6.6.
---     hex_line         a plan: each byte as two capital hexadecimal digits, a space between two bytes; for no
+--     hex_line          a plan: each byte as two capital hexadecimal digits, a space between two bytes; for
+--                       no
 --                     bytes an empty line
---     refused_line     `refused N at P`, both decimal
+--     refused_line      `refused N at P`, both decimal
 --     too_large_line    `too large`
 -- `decimal` counts its recursion down by fuel: `decimal_small` and `decimal-more` (proofs/Decimals.antt) are
 -- the two equations to read it by, and `value_decimal` says that the digits are those of the number.

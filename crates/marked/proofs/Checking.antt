@@ -1,7 +1,7 @@
 -- Routing a job by tables of costs that are given: each join by the next table, if the table passes the test.
---     Checked                what routing by tables answers
---     net_by, nets_by          a net, and all nets from the k-th on
---     written                the records, where every table passed and none is left
+--     Checked            what routing by tables answers
+--     net_by, nets_by    a net, and all nets from the k-th on
+--     written            the records, where every table passed and none is left
 use Prim.Native.Nat.{ℕ, zero, suc}
 use mathlib.Core.List.{List, [], ◌∷◌, ◌++◌}
 use mathlib.Core.Bool.{true, false}

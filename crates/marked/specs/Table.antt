@@ -2,13 +2,13 @@
 -- and the edges: four jobs by their bytes, and what reading them gives.
 -- Specification: section 9.
 --     plain_lines, plain_job         the plain job with its sizes, M, prices and nets changed
---     Row                          a job's bytes, the job, and its records net by net
---     Right                        what is claimed of a row
---     row_a .. row_l, row_n, rows     the thirteen
---     Edge                         a job's bytes, and what reading them gives
---     IsEdge                       what is claimed of an edge
+--     Row                            a job's bytes, the job, and its records net by net
+--     Right                          what is claimed of a row
+--     row_a .. row_l, row_n, rows    the thirteen
+--     Edge                           a job's bytes, and what reading them gives
+--     IsEdge                         what is claimed of an edge
 --     largest_grid .. no_m, edges    the four
---     Marked                       the claim
+--     Marked                         the claim
 use Rattle.std.specs.Prelude.{ℕ, zero, suc, ◌≡◌, List, [], ◌∷◌, map}
 use Rattle.job.specs.Lists.{All}
 use Rattle.job.specs.Grid.{Vertex}

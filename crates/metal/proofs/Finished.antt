@@ -1,8 +1,8 @@
 -- The map at the end: codes of the metal, with the obstacles put in.
---     obstacles_beyond     past its need the slice is as found
---     obstacles_at_lem         257 at an obstacle's occupant, else the code that was there
---     length-map           the map has a code for each vertex
---     map_finished         it is the map of the job
+--     obstacles_beyond    past its need the slice is as found
+--     obstacles_at_lem    257 at an obstacle's occupant, else the code that was there
+--     length-map          the map has a code for each vertex
+--     map_finished        it is the map of the job
 use Prim.Native.Nat.{ℕ, zero, suc, ◌+◌, ◌≤◌, ◌<◌}
 use mathlib.Core.Path.{◌≡◌, refl, sym, ap, ◌∙◌}
 use mathlib.Core.Logic.{◌⊎◌, inl, inr}

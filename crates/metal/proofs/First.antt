@@ -1,10 +1,10 @@
 -- The metal at first, laid net by net.
---     metal_to                                             the pins of the first nets, and nothing of the
---                                                         others
---     metal_none, metal_all                               of no net, and of all
---     metal_more, metal_known                             of one more, which has its list
---     PinsLaid, pins_begun, _here, _asked, _on, _done     the loop that lays them
---     number_below                                        a net's number is at most 255
+--     metal_to                                           the pins of the first nets, and nothing of the
+--                                                        others
+--     metal_none, metal_all                              of no net, and of all
+--     metal_more, metal_known                            of one more, which has its list
+--     PinsLaid, pins_begun, _here, _asked, _on, _done    the loop that lays them
+--     number_below                                       a net's number is at most 255
 use Prim.Native.Nat.{ℕ, zero, suc, ◌+◌, ◌-◌, ◌≤◌, ◌<◌}
 use mathlib.Core.Path.{◌≡◌, refl, sym, ap, ◌∙◌}
 use mathlib.Core.List.{List, [], ◌∷◌, ◌++◌, map, append_assoc}

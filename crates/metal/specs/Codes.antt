@@ -1,10 +1,10 @@
 -- The map while nets are joined: at each vertex the code of the metal on it, 0 bare, a net alone, 256 several
 -- nets. Obstacles are put in at the end.
---     laid_code, lay_all     a net laid on vertices
---     beyond, extended     the vertices beyond one, along its track, and those of an extension
---     Codes                each vertex's code is that of the metal on it
---     Beyond               past its need a slice is as found
---     Bare                 its need is zero
+--     laid_code, lay_all    a net laid on vertices
+--     beyond, extended      the vertices beyond one, along its track, and those of an extension
+--     Codes                 each vertex's code is that of the metal on it
+--     Beyond                past its need a slice is as found
+--     Bare                  its need is zero
 --     with_obstacles        obstacles put in
 use Rattle.std.specs.Prelude.{ℕ, zero, suc, ◌<◌, ◌≡◌, List, [], ◌∷◌, ◌++◌, cond, length, get_or, set, drop, eqb}
 use Rattle.job.specs.Grid.{Grid, vertices}

@@ -1,7 +1,7 @@
 -- The code's reading with occupants comes to what the specification's reading says: the same refusal, or the
 -- same end with occupants of all obstacles and pins.
 --     groups_refused, groups_good                 obstacles, nets and tail, read with occupants
---     read_rest, rest_of_job                       what they are read beside, as a part of a job's bits
+--     read_rest, rest_of_job                      what they are read beside, as a part of a job's bits
 --     any_append                                  a test holds in two lists where it holds in one of them
 --     many_length, nets_length, bare_occupants    as many are read as asked for; occupants at first
 -- Stated and proved below this file:

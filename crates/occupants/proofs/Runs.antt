@@ -1,6 +1,6 @@
 -- Covering a run.
 --     cover_every_lem    covering a run is covering a stride apart
---     run_inside     the vertices of a run inside lie in the array
+--     run_inside         the vertices of a run inside lie in the array
 use Prim.Native.Nat.{ℕ, zero, suc, ◌≤◌}
 use mathlib.Core.Path.{◌≡◌, refl, ap}
 use mathlib.Core.List.{List}

@@ -1,11 +1,11 @@
 -- The code's way through obstacles and nets. It keeps in an array what occupies each vertex, 1 for an
 -- obstacle and 2 for a pin, so that a pin is held against all obstacles and earlier pins by one look. The
 -- laws that tie it to Reading are in proofs/Covering.antt; no promise to a caller from outside speaks of it.
---     Passed, and_then                                 how far reading has come with the occupants, or its
---                                                     refusal with them
---     cover_all, cover_obstacle, cover_every             covering vertices of an obstacle
---     obstacles_from, pins_from, nets_from, groups_from   reading with occupants
---     Bare, Occupants                                 what the occupants say of obstacles and pins
+--     Passed, and_then                                     how far reading has come with the occupants, or
+--                                                          its refusal with them
+--     cover_all, cover_obstacle, cover_every               covering vertices of an obstacle
+--     obstacles_from, pins_from, nets_from, groups_from    reading with occupants
+--     Bare, Occupants                                      what the occupants say of obstacles and pins
 use Rattle.std.specs.Prelude.{ℕ, zero, suc, ◌+◌, ◌*◌, ◌<◌, ◌≡◌, List, [], ◌∷◌, cond, length, get_or, set, replicate, T, eqb}
 use Rattle.bits.specs.Bits.{field, whole}
 use Rattle.job.specs.Lists.{any}

@@ -19,24 +19,23 @@
 --     start_first, start_foremost, foremost_only    following a table from the best start is the join that is
 --                                                   taken, and the only one
 -- By a search forward from the starts (specs/Forward, specs/Leads):
---     one_bounds                                every rival costs at least 1
---     forward_least, forward_some               no rival from a start costs less than the search found, and
---                                               some join costs that
---     forward_none, some_start, start_best      the best start: none, or the lowest on a cheapest join
---     keeps_leads, leads_keeps                  on a cheapest join the moves that keep the cost to go are
---                                               those that lead on
---     on_leads, leads_on                        a place is on a cheapest join just where a move leads on from
---                                               it
---     start_on, on_start                        a start is on a cheapest join just where the cost to go is
---                                               what the search found
---     led_best, best_led                        leads stand just on the places of cheapest joins
---     lead_keeps, lowest_lead_lem, leads_follow     so leads are followed as a table is
---     leads_best, leads_join, leads_foremost    and the join by leads is the join by a table, the one that is
---                                               taken
+--     one_bounds                                   every rival costs at least 1
+--     forward_least, forward_some                  no rival from a start costs less than the search found,
+--                                                  and some join costs that
+--     forward_none, some_start, start_best         the best start: none, or the lowest on a cheapest join
+--     keeps_leads, leads_keeps                     on a cheapest join the moves that keep the cost to go are
+--                                                  those that lead on
+--     on_leads, leads_on                           a place is on a cheapest join just where a move leads on
+--                                                  from it
+--     start_on, on_start                           a start is on a cheapest join just where the cost to go is
+--                                                  what the search found
+--     led_best, best_led                           leads stand just on the places of cheapest joins
+--     lead_keeps, lowest_lead_lem, leads_follow    so leads are followed as a table is
+--     leads_best, leads_join, leads_foremost       and the join by leads is the join by a table, the one that
+--                                                  is taken
 -- By trying every list of so many moves (specs/Finding):
---     earliest_in                                 what is found is the first of the cheapest routes that have
---                                               no more moves
---     found_best                                with as many moves as places, it is what a table tells
+--     earliest_in    what is found is the first of the cheapest routes that have no more moves
+--     found_best     with as many moves as places, it is what a table tells
 -- Orders of move lists and of joins:
 --     before_irrefl, before_trans, before-total, ahead_irrefl, ahead_trans, ahead_total
 -- Not here: one move of `follow` (Following, Lowest) and of `follow_leads` (FollowLeads), the test of a move

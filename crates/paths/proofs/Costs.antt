@@ -1,12 +1,9 @@
 -- Laws of costs.
---     inf_not_fin                                 no cost is both finite and none
---     within_trans, within_only                   `within` is an order
---     within_inf, within_fin                      every cost is within none; what is within a finite cost is
---                                                 finite
---     plus-within, through_fin                    a price added to both sides; a finite cost through a move,
---                                                 taken apart
---     least_of_below, least_of_one                  the least of some is within each of them, and is one of
---                                                 them
+--     inf_not_fin                     no cost is both finite and none
+--     within_trans, within_only       `within` is an order
+--     within_inf, within_fin          every cost is within none; what is within a finite cost is finite
+--     plus-within, through_fin        a price added to both sides; a finite cost through a move, taken apart
+--     least_of_below, least_of_one    the least of some is within each of them, and is one of them
 use Prim.Native.Nat.{ℕ, zero, suc, ◌+◌, ◌≤◌, ◌<◌}
 use native.Mathlib.Omega.{arith}
 use native.Mathlib.Decide.{ℕ_discrete, dec_le}

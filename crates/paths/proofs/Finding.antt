@@ -1,7 +1,7 @@
 -- What is found is the cheapest route, the first by move number among equals.
---     Earlier, earlier_trans           a cost and moves that come no later than others
---     Heads, Earliest, earliest            the cheapest of several, each of which begins with its own number
---     EarliestIn, at_goal, earliest_in     the cheapest route of at most so many moves from a place
+--     Earlier, earlier_trans              a cost and moves that come no later than others
+--     Heads, Earliest, earliest           the cheapest of several, each of which begins with its own number
+--     EarliestIn, at_goal, earliest_in    the cheapest route of at most so many moves from a place
 use Prim.Native.Nat.{ℕ, zero, suc, ◌+◌, ◌≤◌, ◌<◌}
 use native.Mathlib.Omega.{arith}
 use native.Mathlib.Decide.{ℕ_discrete}

@@ -1,10 +1,10 @@
 -- Following the leads of a forward search is following a table of the costs to go.
---     same_test                               two tests that pass together are one
---     leads_none, leads_goal, leads_step      nothing is followed with no move left and at a goal; else the
---                                             lowest move that leads on, then the rest
---     lead_keeps, lowest_lead_lem                 on a cheapest join a move leads on just where it keeps the
---                                             table's cost; so the lowest of each is one
---     leads_follow                            so the leads are followed as the table is
+--     same_test                             two tests that pass together are one
+--     leads_none, leads_goal, leads_step    nothing is followed with no move left and at a goal; else the
+--                                           lowest move that leads on, then the rest
+--     lead_keeps, lowest_lead_lem           on a cheapest join a move leads on just where it keeps the
+--                                           table's cost; so the lowest of each is one
+--     leads_follow                          so the leads are followed as the table is
 use Prim.Native.Nat.{ℕ, zero, suc, ◌+◌, ◌<◌}
 use native.Mathlib.Omega.{arith}
 use mathlib.Core.Path.{◌≡◌, refl, sym, ap, ◌∙◌}

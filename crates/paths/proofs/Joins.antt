@@ -1,5 +1,5 @@
 -- The join from the best start is the one that is taken.
---     at_start, is_start_lem               the cost from a start is its entry; a number with a finite cost is a
+--     at_start, is_start_lem           the cost from a start is its entry; a number with a finite cost is a
 --                                      start
 --     start_joins, start_first         the best start with what is followed from it is a join, and every
 --                                      other join is behind it

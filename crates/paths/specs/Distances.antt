@@ -1,9 +1,9 @@
 -- The least cost to a goal, and the route that has it.
---     least                          the lesser of two costs
---     least_of                        the least of the first n costs
---     dist                           the least cost in at most so many moves (0 at a goal)
---     lowest_keeping                  the lowest move that keeps the table's cost
---     follow                         the route that takes it at each place
+--     least             the lesser of two costs
+--     least_of          the least of the first n costs
+--     dist              the least cost in at most so many moves (0 at a goal)
+--     lowest_keeping    the lowest move that keeps the table's cost
+--     follow            the route that takes it at each place
 -- `dist` is never to be evaluated: its cost explodes. A concrete table is shown to be a `Table` (Tables), and
 -- so to be `dist`.
 use Rattle.std.specs.Prelude.{ℕ, zero, suc, min, List, [], ◌∷◌, Bool, true, false, cond, eqb}

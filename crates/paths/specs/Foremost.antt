@@ -1,8 +1,8 @@
 -- The join that no other is ahead of.
---     Chosen, Chooses     the lowest of the cheapest numbers, said without a recursion
---     GoodStarts          each start is a good place and no goal
---     Joins, Foremost     a join from a start of a system; the one that no other is ahead of
---     join_from            the join from a start that follows a table
+--     Chosen, Chooses    the lowest of the cheapest numbers, said without a recursion
+--     GoodStarts         each start is a good place and no goal
+--     Joins, Foremost    a join from a start of a system; the one that no other is ahead of
+--     join_from          the join from a start that follows a table
 use Rattle.std.specs.Prelude.{ℕ, ◌<◌, ◌≡◌, true, false}
 use Rattle.paths.specs.Systems.{System}
 use Rattle.paths.specs.Rivals.{Route, Join, Ahead}

@@ -1,12 +1,12 @@
 -- The join that a forward search finds, by leads.
---     OnBest                              a place on a cheapest join
---     Leads                               a move that leads to a goal at the best cost, or on to such a place
---                                         at its exact distance
---     Leading                             what a pass backwards over the places leaves: a lead where a move
---                                         leads on so
---     is_lead, lowest_lead                  the test for such a move; the lowest of them
---     follow_leads                         the route that takes it at each place
---     is_led, led_start, join_leads          the lowest start with a lead; the join from there
+--     OnBest                           a place on a cheapest join
+--     Leads                            a move that leads to a goal at the best cost, or on to such a place at
+--                                      its exact distance
+--     Leading                          what a pass backwards over the places leaves: a lead where a move
+--                                      leads on so
+--     is_lead, lowest_lead             the test for such a move; the lowest of them
+--     follow_leads                     the route that takes it at each place
+--     is_led, led_start, join_leads    the lowest start with a lead; the join from there
 -- E, h as in Forward; C, the cost of the cheapest goal found, is a number here. That no lead stands beyond C
 -- makes chains of leads end at a goal: each move of one costs at least 1. Goals carry no lead: a move into
 -- one is told by the goal.

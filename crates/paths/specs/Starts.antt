@@ -1,6 +1,6 @@
 -- The cheapest of numbered starts, the lowest number first.
 --     Choice, best          the lowest number below n with the least finite cost, or none
---     Starts, start_cost     numbered starts of a system; the cost from each
+--     Starts, start_cost    numbered starts of a system; the cost from each
 use Rattle.std.specs.Prelude.{ℕ, zero, suc, Bool, cond, ltb}
 use Rattle.paths.specs.Systems.{System}
 use Rattle.paths.specs.Costs.{Cost, fin, inf}

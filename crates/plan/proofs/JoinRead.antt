@@ -1,9 +1,9 @@
 -- Reading a join after its flag: good exactly where the join's bits stand there and it is legal.
---     join_fields, join_bits        the fields of a start with its count; the bits of a join after its flag
+--     join_fields, join_bits      the fields of a start with its count; the bits of a join after its flag
 --     length_join, join_placed    how many bits; they stand there where their parts do
 --     JoinAt, join_good           a join that is read as good
 --     legal_walk                  the walk of a legal join ends at an unjoined pin and costs what is recorded
---     read_of, join_read           a legal join is read as good
+--     read_of, join_read          a legal join is read as good
 use Prim.Native.Nat.{ℕ, ◌+◌, ◌*◌, ◌<◌}
 use native.Mathlib.Omega.{arith}
 use mathlib.Core.Path.{◌≡◌, refl, sym, ◌∙◌}

@@ -1,8 +1,8 @@
 -- Reading the records of a net: good exactly where their bits stand there and they are a net's entries.
---     unless_some, flag_good          records are read while a pin is unjoined, each by its flag
---     read_all                        with none unjoined, no record is read
---     NetAt, net_good                 the records of a net that are read as good
---     net_totals, read_to, net_read     the entries of a net are read, with the totals after them
+--     unless_some, flag_good           records are read while a pin is unjoined, each by its flag
+--     read_all                         with none unjoined, no record is read
+--     NetAt, net_good                  the records of a net that are read as good
+--     net_totals, read_to, net_read    the entries of a net are read, with the totals after them
 use Prim.Native.Nat.{ℕ, zero, suc, ◌+◌, ◌≤◌, ◌<◌}
 use native.Mathlib.Nat.{add-zero}
 use native.Mathlib.Omega.{arith}

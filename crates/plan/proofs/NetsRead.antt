@@ -1,7 +1,7 @@
 -- Reading the records of all nets: good exactly where their bits stand there and they are all nets' entries.
---     NetsAt, nets_good                the records of all nets that are read as good
---     job_metal, job_totals, nets_read   the entries of all nets are read, with the metal and the totals after
---                                      them
+--     NetsAt, nets_good                   the records of all nets that are read as good
+--     job_metal, job_totals, nets_read    the entries of all nets are read, with the metal and the totals
+--                                         after them
 use Prim.Native.Nat.{ℕ, suc, ◌+◌}
 use native.Mathlib.Nat.{add-zero}
 use native.Mathlib.Omega.{arith}

@@ -4,7 +4,7 @@
 --                              after them
 --     routing_entries          so is what was routed of a job
 --     routing_legal            routing's plan is legal
---     routing_read_lem             and read as what routing gives
+--     routing_read_lem         and read as what routing gives
 --     routing_plan_cheapest    and cheapest
 --     routing_plan_by_ties     and holds the joins that the ties name
 use Prim.Native.Nat.{ℕ, zero, suc, ◌≤◌}

@@ -1,11 +1,11 @@
 -- Reading a plan against a good job accepts exactly the legal plans.
---     entries_below               the bits of entries are bits
---     plan_below                  a plan's bytes are below 256
---     plan_legal                  a plan that is read is legal, with the entries that are read
---     made_by, plan_read           a legal plan is read, with its entries and the metal and the totals after
---                                 them
---     plan_two_way                the law
---     plan_entries, plan_only     the entries of a legal plan are those that are read, and the only ones
+--     entries_below              the bits of entries are bits
+--     plan_below                 a plan's bytes are below 256
+--     plan_legal                 a plan that is read is legal, with the entries that are read
+--     made_by, plan_read         a legal plan is read, with its entries and the metal and the totals after
+--                                them
+--     plan_two_way               the law
+--     plan_entries, plan_only    the entries of a legal plan are those that are read, and the only ones
 use Prim.Native.Nat.{ℕ, ◌-◌, ◌<◌}
 use native.Mathlib.Nat.{zero-add}
 use mathlib.Core.Path.{◌≡◌, refl, ◌∙◌}

@@ -1,9 +1,9 @@
 -- Reading a plan against a job: its entries with the map's metal and the totals, or a refusal from 15 to 18
 -- with its place. "each move judged before the next is read"
 -- Specification: sections 4.2, 6.4 and 7.
---     group            15 where a flag, a start with its count, a move or a cost is not whole
---     read_moves        the moves of a join
---     readRecord       a record
+--     group         15 where a flag, a start with its count, a move or a cost is not whole
+--     read_moves    the moves of a join
+--     readRecord    a record
 --     read_net, read_nets, read_plan
 use Rattle.std.specs.Prelude.{ℕ, zero, suc, ◌+◌, ◌-◌, ◌*◌, List, [], ◌∷◌, ◌++◌, Bool, ◌&&◌, not, cond, length, drop, leb, ltb, eqb}
 use Rattle.bits.specs.Bits.{bits_of, field, whole, number}

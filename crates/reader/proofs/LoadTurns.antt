@@ -2,7 +2,7 @@
 --     vertex_uncut, box_uncut, net_uncut                 a group whose bits are there is not cut
 --     vertex_told, box_told                              a group that is answered is the one that stands
 --                                                        there
---     vertex_fields_lem                                      the numbers of a vertex lie in their fields' ranges
+--     vertex_fields_lem                                  the numbers of a vertex lie in their fields' ranges
 --     net_head_there, NetThere, net_there                the head of a net, with all that it counts
 --     sets_append                                        storing two runs is storing the first, and the
 --                                                        second behind it

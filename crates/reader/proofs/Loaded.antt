@@ -1,9 +1,10 @@
 -- What is loaded of a net is the net of the job that was read.
---     pins_loaded_lem, boxes_loaded_lem         the numbers of pins and of boxes whose bits stand there
+--     pins_loaded_lem, boxes_loaded_lem     the numbers of pins and of boxes whose bits stand there
 --     all_below_lem, all_one, width_more    numbers below a higher bound; one of many; one net more
---     NetTold                           a net, loaded
---     net_loaded_lem, net_told              a good net whose bits stand at a bit; each net of a job that was read
---     first_net                         the first net begins where the obstacles end
+--     NetTold                               a net, loaded
+--     net_loaded_lem, net_told              a good net whose bits stand at a bit; each net of a job that was
+--                                           read
+--     first_net                             the first net begins where the obstacles end
 use Prim.Native.Nat.{ℕ, suc, ◌+◌, ◌*◌, ◌≤◌, ◌<◌}
 use native.Mathlib.Nat.{add-zero}
 use native.Mathlib.Omega.{arith}

@@ -1,10 +1,10 @@
 -- The ways out of reading a join.
---     ended_refused, ended_other, ended_same     the cost after moves
---     cost_arrays                                it leaves the arrays as the moves did
---     start_refused, start_read_lem                  a start, from the code's form
---     join_refused, join_started                 a join by its start
---     start_bounds                               a start's vertex and number of moves
---     refused_join, started_join                 a join as the code answers
+--     ended_refused, ended_other, ended_same    the cost after moves
+--     cost_arrays                               it leaves the arrays as the moves did
+--     start_refused, start_read_lem             a start, from the code's form
+--     join_refused, join_started                a join by its start
+--     start_bounds                              a start's vertex and number of moves
+--     refused_join, started_join                a join as the code answers
 use Prim.Native.Nat.{ℕ, ◌+◌, ◌*◌, ◌^◌, ◌≤◌, ◌<◌}
 use mathlib.Core.Path.{◌≡◌, refl, sym, ap, ◌∙◌}
 use mathlib.Core.List.{List}

@@ -1,8 +1,8 @@
 -- Reading the records of a net with arrays comes to what reading them by the definition comes to.
---     NetMeet        what the two readings have in common
---     entry_counts_lem   the counts of a join that was read are those of its entry
---     with_entry_lem     the counts of an entry and of the rest are those of both
---     net_follow     the law
+--     NetMeet             what the two readings have in common
+--     entry_counts_lem    the counts of a join that was read are those of its entry
+--     with_entry_lem      the counts of an entry and of the rest are those of both
+--     net_follow          the law
 use Prim.Native.Nat.{ℕ, zero, suc, ◌+◌, ◌<◌}
 use mathlib.Core.Path.{◌≡◌, refl, sym, ap, subst, ◌∙◌}
 use mathlib.Core.List.{List, flat_map}

@@ -1,7 +1,7 @@
 -- A whole plan.
---     end_refused, end_tail, end_good      the tail after the last net
---     plan_coded                           the codes of a good plan are those of its metal
---     plan_answer, plan_map, plan_counted     the answer, the map and the counts of a plan
+--     end_refused, end_tail, end_good        the tail after the last net
+--     plan_coded                             the codes of a good plan are those of its metal
+--     plan_answer, plan_map, plan_counted    the answer, the map and the counts of a plan
 use Prim.Native.Nat.{ℕ, ◌-◌}
 use mathlib.Core.Path.{◌≡◌, refl, sym, ap, subst, ◌∙◌}
 use mathlib.Core.List.{List}

@@ -1,10 +1,10 @@
 -- The code's way through a plan: reading it with what stands in arrays. The laws that tie it to `read_plan`
 -- are in proofs/; no promise to a caller from outside speaks of it.
---     Came, and_on                      how far reading has come, or its refusal
---     judged_move                       a move that is read
---     moves_from                        the moves of a join
+--     Came, and_on                        how far reading has come, or its refusal
+--     judged_move                         a move that is read
+--     moves_from                          the moves of a join
 --     read_start, cost_from, join_from    a join
---     net_from                          the records of a net
+--     net_from                            the records of a net
 use Rattle.std.specs.Prelude.{ℕ, zero, suc, ◌+◌, ◌*◌, List, Bool, ◌&&◌, cond, not, get_or, leb, eqb}
 use Rattle.bits.specs.Bits.{field}
 use Rattle.job.specs.Grid.{Grid, vertex_number, inside}

@@ -1,8 +1,8 @@
 -- Replay's answer from what reading answered.
---     replay_refused                   a refusal from 1 to 13
---     replay_read_lem                      the plan's answer
---     replay_parts                     an outcome in its parts, with what it accepts
---     result_refused, result_good      the result of the plan's answer
+--     replay_refused                 a refusal from 1 to 13
+--     replay_read_lem                the plan's answer
+--     replay_parts                   an outcome in its parts, with what it accepts
+--     result_refused, result_good    the result of the plan's answer
 use Prim.Native.Nat.{ℕ}
 use mathlib.Core.Path.{◌≡◌, refl, sym, ap, ◌∙◌}
 use mathlib.Core.Logic.{◌↔◌}

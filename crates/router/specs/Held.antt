@@ -1,9 +1,9 @@
 -- What the code holds of a job that was read, and its answers.
---     held_of, JobHeld       a job's layers, needs and counts
---     room_answer            whether its slices are long enough
---     IsResult              the result of a plan's answer
---     CountsHeld            the counts of the plan, where the job was read
---     replay_leaves, report_leaves, routing_leaves     an outcome, from a result and the slices at exit
+--     held_of, JobHeld                                a job's layers, needs and counts
+--     room_answer                                     whether its slices are long enough
+--     IsResult                                        the result of a plan's answer
+--     CountsHeld                                      the counts of the plan, where the job was read
+--     replay_leaves, report_leaves, routing_leaves    an outcome, from a result and the slices at exit
 use Rattle.std.specs.Prelude.{ℕ, ◌+◌, ◌*◌, ◌≡◌, List, length}
 use Rattle.job.specs.Grid.{vertices}
 use Rattle.job.specs.Job.{Job}

@@ -1,9 +1,9 @@
 -- The outcome of replay: "job, plan, map, work; same map and totals, no test for cheapest". The job's numbers
 -- come first, then 12 and 13, then the plan's.
 -- Specification: section 6.4.
---     ReplayOutcome     the result, and both slices at exit
---     replay_of          from the bytes and the slices at entry
---     Accepts           what it accepts
+--     ReplayOutcome    the result, and both slices at exit
+--     replay_of        from the bytes and the slices at entry
+--     Accepts          what it accepts
 use Rattle.std.specs.Prelude.{ℕ, ◌≤◌, ◌≡◌, List, length}
 use Rattle.job.specs.Grid.{vertices}
 use Rattle.job.specs.Job.{Job}

@@ -1,9 +1,9 @@
 -- The outcome of the wire report: replay, and where it accepts, the plan's counts added to a report.
 -- Specification: section 6.5.
---     ReportOutcome            the result, and the three slices at exit
+--     ReportOutcome             the result, and the three slices at exit
 --     counts_read               the counts that a call adds, or its refusal
 --     report_of                 from the bytes and the slices at entry
---     CountsPay, CountsPayIn   counts times prices make the cost, of every plan that is accepted
+--     CountsPay, CountsPayIn    counts times prices make the cost, of every plan that is accepted
 use Rattle.std.specs.Prelude.{ℕ, ◌≡◌, List, [], replicate}
 use Rattle.job.specs.Job.{Job}
 use Rattle.job.specs.Reading.{Read, refused, good, ◌>>=◌, ◌>>◌, read_job}

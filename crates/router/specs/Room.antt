@@ -1,8 +1,8 @@
 -- A job and the slices that are lent for it: "12 and 13 come after the job".
 -- Specification: section 6.1.
---     work_need                  the work need
---     room_for                   whether the slices are long enough for the needs
---     read_with_room              bytes with slices
+--     work_need         the work need
+--     room_for          whether the slices are long enough for the needs
+--     read_with_room    bytes with slices
 use Rattle.std.specs.Prelude.{ℕ, ◌+◌, ◌*◌, List, length, leb}
 use Rattle.job.specs.Grid.{vertices}
 use Rattle.job.specs.Job.{Job, largest_min_length}

@@ -1,10 +1,10 @@
 -- The outcome of routing: "job, map, work, plan; returns plan bytes and the totals". The job's numbers come
 -- first, then 12 and 13, then routing, then 14.
 -- Specification: section 6.3.
---     RoutingOutcome     the result, and the three slices at exit
---     routed             what routing leaves of a job
---     routing_of          from the bytes and the slices at entry
---     plan_in             the plan that stands in the slice
+--     RoutingOutcome    the result, and the three slices at exit
+--     routed            what routing leaves of a job
+--     routing_of        from the bytes and the slices at entry
+--     plan_in           the plan that stands in the slice
 use Rattle.std.specs.Prelude.{ℕ, cond, List, ◌++◌, length, take, drop, replicate, leb}
 use Rattle.job.specs.Grid.{vertices}
 use Rattle.job.specs.Job.{Job}

@@ -1,8 +1,8 @@
 -- Turns of routing a net's records: what has been routed, from before the first record to where none is left.
 --     with_entries                        entries before those that follow
---     Told, Recording                    what has been routed, and that the rest gives the whole
---     recording_begun                    before the first record
---     recording_joined, recording_done   every pin is joined; no record is left
+--     Told, Recording                     what has been routed, and that the rest gives the whole
+--     recording_begun                     before the first record
+--     recording_joined, recording_done    every pin is joined; no record is left
 use Prim.Native.Nat.{ℕ, suc, ◌+◌, ◌-◌, ◌*◌, ◌≤◌}
 use mathlib.Core.Path.{◌≡◌, refl, ap, ◌∙◌}
 use mathlib.Core.List.{List, [], ◌++◌, append-nil, flat_map}

@@ -1,9 +1,9 @@
 -- A table of costs given as numbers, and a test that shows it to be a table of least costs.
---     table_cost                the cost that the table has at a place
---     place_test                what a table must satisfy at one place
---     certified                the test at every good place
---     certificate              a table that passes is a `Table`, and so has the least costs
---     certified_join           the cheapest join is the join by a table that passes
+--     table_cost        the cost that the table has at a place
+--     place_test        what a table must satisfy at one place
+--     certified         the test at every good place
+--     certificate       a table that passes is a `Table`, and so has the least costs
+--     certified_join    the cheapest join is the join by a table that passes
 use Prim.Native.Nat.{ℕ, zero, suc, ◌-◌, ◌<◌}
 use mathlib.Core.Logic.{◌⊎◌, inl, inr}
 use mathlib.Core.Path.{◌≡◌}

@@ -1,5 +1,5 @@
 -- The two ends of a segment, and the clear vertices beyond them.
---     end_vertex, end_toward               the vertex of an end, and the direction that leads on from it
+--     end_vertex, end_toward             the vertex of an end, and the direction that leads on from it
 --     EndRead, end_read                  what the code has read of an end
 --     Back, way_back                     how far the first vertex lies back
 --     reached                            how many clear vertices lie beyond the ends so far

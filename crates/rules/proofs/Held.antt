@@ -1,7 +1,7 @@
 -- What the code holds of a net's view, of layers and of prices.
---     seen_blocked, seen_clear, seen_taken, seen_outside   a vertex of the grid is so where its byte says so
---     on_grid_lem, in_array, line_held, line_fits              the layer line of a vertex
---     from_cost                                            a penalty from its field is what that charges
+--     seen_blocked, seen_clear, seen_taken, seen_outside    a vertex of the grid is so where its byte says so
+--     on_grid_lem, in_array, line_held, line_fits           the layer line of a vertex
+--     from_cost                                             a penalty from its field is what that charges
 use Prim.Native.Nat.{ℕ, zero, suc, ◌+◌, ◌-◌, ◌<◌}
 use mathlib.Core.Path.{◌≡◌, refl, sym, ap, ◌∙◌}
 use mathlib.Core.List.{List}

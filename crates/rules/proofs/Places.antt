@@ -1,9 +1,9 @@
 -- Places by number.
---     segment_code_lem, segment_below     a good segment from its number, which is below 2(M + 1)
---     code_below                      a good place has a number below the number of places
---     code_apart                      two good places have two numbers
---     start_good                      a start of a join is a good place
---     places_small                    there are at most 2^19 places
+--     segment_code_lem, segment_below    a good segment from its number, which is below 2(M + 1)
+--     code_below                         a good place has a number below the number of places
+--     code_apart                         two good places have two numbers
+--     start_good                         a start of a join is a good place
+--     places_small                       there are at most 2^19 places
 use Prim.Native.Nat.{ℕ, ◌+◌, ◌-◌, ◌*◌, ◌/◌, ◌%◌, ◌^◌, ◌≤◌, ◌<◌}
 use mathlib.Core.Path.{◌≡◌, refl, sym, ap, ◌∙◌}
 use native.Mathlib.Nat.{mul_assoc, mul-le-mul}

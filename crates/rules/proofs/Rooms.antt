@@ -1,11 +1,10 @@
 -- Walking a track by its stride.
---     next_toward                   the next vertex
---     room_enters, room_ends       what a step enters where the track goes on, and where it ends
---     Onward, onward               the next vertex: of the grid, on the same track, with one step less of
---                                  room
---     room_read                    the room, by what the code has read of the track
---     run_on, run_stops            a clear run from a vertex, by whether the next one is clear
---     run_within                   a clear run is no longer than it may be, nor than the room
+--     next_toward               the next vertex
+--     room_enters, room_ends    what a step enters where the track goes on, and where it ends
+--     Onward, onward            the next vertex: of the grid, on the same track, with one step less of room
+--     room_read                 the room, by what the code has read of the track
+--     run_on, run_stops         a clear run from a vertex, by whether the next one is clear
+--     run_within                a clear run is no longer than it may be, nor than the room
 use Prim.Native.Nat.{ℕ, zero, suc, ◌≤◌, ◌<◌, min}
 use mathlib.Core.Path.{◌≡◌, refl, sym, ap}
 use mathlib.Core.List.{[], ◌∷◌}

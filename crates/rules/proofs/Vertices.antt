@@ -1,6 +1,6 @@
 -- A vertex by its number.
---     number_vertex, vertex_number_lem     numbers and vertices undo each other
---     vertex_below                     below the number of vertices, and so below the grid's sizes
+--     number_vertex, vertex_number_lem    numbers and vertices undo each other
+--     vertex_below                        below the number of vertices, and so below the grid's sizes
 use Prim.Native.Nat.{ℕ, zero, suc, ◌+◌, ◌*◌, ◌/◌, ◌%◌, ◌<◌}
 use mathlib.Core.Path.{◌≡◌, sym, ap, ◌∙◌}
 use native.Mathlib.Nat.{mul-zero, mul_comm, mod-lt, div-add-mod', div-div-eq-div-mul, div-lt_iff_lt-mul, not-suc-le-zero}

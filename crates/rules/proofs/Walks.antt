@@ -1,10 +1,9 @@
 -- What a route does when its moves are walked.
---     Legal, step_legal             a legal move, with all that it did
---     Passed                        a vertex of the grid that is not blocked
---     walk_on_lem                       a walk by its first move and the rest
---     First, walk_first             a walk taken apart after its first move
---     Walks, route_walk             the walk of a route: its end, its cost, the vertices entered and the
---                                   vertices laid
+--     Legal, step_legal    a legal move, with all that it did
+--     Passed               a vertex of the grid that is not blocked
+--     walk_on_lem          a walk by its first move and the rest
+--     First, walk_first    a walk taken apart after its first move
+--     Walks, route_walk    the walk of a route: its end, its cost, the vertices entered and the vertices laid
 use Prim.Native.Nat.{ℕ, ◌<◌}
 use mathlib.Core.Path.{◌≡◌, refl, ◌∙◌}
 use mathlib.Core.List.{List, [], ◌∷◌, ◌++◌, flat_map}

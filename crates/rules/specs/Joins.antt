@@ -1,9 +1,9 @@
 -- The cheapest join of a net in what stands.
 -- Specification: section 3.2.
---     Record       a join with its start, moves and cost, or none
---     IsJoin       the route that no route is ahead of; or none, and there is no route
---     places       how many places there are
---     join_of       the function that computes it: the cheapest, by lowest start, then by lowest moves
+--     Record     a join with its start, moves and cost, or none
+--     IsJoin     the route that no route is ahead of; or none, and there is no route
+--     places     how many places there are
+--     join_of    the function that computes it: the cheapest, by lowest start, then by lowest moves
 use Rattle.std.specs.Prelude.{ℕ, ◌+◌, ◌*◌, ◌≡◌, List, [], ◌∷◌, cond}
 use Rattle.job.specs.Grid.{vertices}
 use Rattle.job.specs.Job.{largest_min_length}

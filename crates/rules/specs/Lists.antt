@@ -1,5 +1,5 @@
 -- The price list while it is filled.
---     line_numbers     the numbers that a layer line puts there
+--     line_numbers    the numbers that a layer line puts there
 --     LinesTo         the lines below one are held
 --     FlagsTo         the bytes of flags below one have their penalty
 --     SameLines       two lists have the same lines

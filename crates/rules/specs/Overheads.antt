@@ -1,8 +1,8 @@
 -- What a via move owes for the segment that it leaves.
 -- Specification: section 2.5.
---     clear_run                 the clear vertices beyond one
---     first_of, both_ends        a segment's first vertex; the clear vertices beyond its two ends
---     Overhead, overhead_of     what is owed, or that the move is forbidden
+--     clear_run                the clear vertices beyond one
+--     first_of, both_ends      a segment's first vertex; the clear vertices beyond its two ends
+--     Overhead, overhead_of    what is owed, or that the move is forbidden
 use Rattle.std.specs.Prelude.{ℕ, zero, suc, ◌-◌, ◌*◌, List, [], ◌∷◌, ◌++◌, Bool, true, false, ◌&&◌, not, cond, length, eqb}
 use Rattle.job.specs.Grid.{Grid}
 use Rattle.job.specs.Job.{Layer, closed_price}

@@ -1,11 +1,11 @@
 -- The places of a search by number, and what a job's layers must satisfy.
---     segment_code, code_by, place_code   a segment's number, and a place's: by vertex, then segment
---     segment_at, place_at               the segment and the place of a number
---     entry_cost                        an entry of a table of costs
---     GoodSegment, GoodPlace           a vertex of the grid, and a running length from 1 to below the largest
---                                      M
---     GoodTech                         what a good job says of its layers
---     dearest_entry, dearest_move        the most that entering a vertex and a move can cost
+--     segment_code, code_by, place_code    a segment's number, and a place's: by vertex, then segment
+--     segment_at, place_at                 the segment and the place of a number
+--     entry_cost                           an entry of a table of costs
+--     GoodSegment, GoodPlace               a vertex of the grid, and a running length from 1 to below the
+--                                          largest M
+--     GoodTech                             what a good job says of its layers
+--     dearest_entry, dearest_move          the most that entering a vertex and a move can cost
 use Rattle.std.specs.Prelude.{ℕ, zero, suc, ◌+◌, ◌-◌, ◌*◌, ◌/◌, ◌%◌, ◌^◌, ◌≤◌, ◌<◌, ◌≡◌, cond, length, eqb, ltb}
 use Rattle.job.specs.Grid.{vertices}
 use Rattle.job.specs.Job.{largest_min_length}

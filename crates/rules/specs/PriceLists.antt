@@ -1,11 +1,11 @@
 -- The price list of a job, as the code holds it in one list of 40 numbers: four for each layer, then one for
 -- each byte of a vertex's flags.
---     line_in                    the line of a layer
---     base_in                    the wire price of a layer, or the price of a via out of it
---     outside_field              the guide penalty of a byte of flags
---     extra_field                the one penalty of such a byte
---     extra_in                   what it adds to the price of entering
---     Priced                    the list holds a job's prices
+--     line_in          the line of a layer
+--     base_in          the wire price of a layer, or the price of a via out of it
+--     outside_field    the guide penalty of a byte of flags
+--     extra_field      the one penalty of such a byte
+--     extra_in         what it adds to the price of entering
+--     Priced           the list holds a job's prices
 use Rattle.std.specs.Prelude.{ℕ, ◌+◌, ◌-◌, ◌*◌, ◌%◌, ◌<◌, ◌≡◌, List, ◌||◌, cond, get_or, eqb}
 use Rattle.job.specs.Grid.{vertices}
 use Rattle.job.specs.Job.{closed_price}

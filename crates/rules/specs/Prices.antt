@@ -1,10 +1,11 @@
 -- The price of entering a vertex, in its parts.
 -- Specification: section 2.3.
---     Tech                     what a job says of its layers: the grid, the layer lines and the two penalties
---     penalty                  a penalty where it applies; the closed one forbids
---     closing                  a penalty in whose place another is added
---     base, guide_at, short_at   the parts of the price of entering
---     entering                 their sum
+--     Tech                        what a job says of its layers: the grid, the layer lines and the two
+--                                 penalties
+--     penalty                     a penalty where it applies; the closed one forbids
+--     closing                     a penalty in whose place another is added
+--     base, guide_at, short_at    the parts of the price of entering
+--     entering                    their sum
 use Rattle.std.specs.Prelude.{ℕ, List, Bool, cond, not, get_or, eqb}
 use Rattle.job.specs.Grid.{Grid}
 use Rattle.job.specs.Job.{Layer, Job, closed_price}

@@ -2,7 +2,7 @@
 -- Specification: section 3.4.
 --     Entry                    a record, with its net and what stood before it
 --     Totals                   the running totals
---     route_net, route_nets      a net until all its pins are joined or there is no join; all nets
+--     route_net, route_nets    a net until all its pins are joined or there is no join; all nets
 --     routing                  a job
 use Rattle.std.specs.Prelude.{ℕ, zero, suc, ◌+◌, List, [], ◌∷◌, ◌++◌, length}
 use Rattle.job.specs.Job.{Net, Job}

@@ -1,7 +1,7 @@
 -- What stands while a net is joined: its tree, its unjoined pins, and the metal of every net.
 -- Specification: section 3.1.
---     metal_at_first     every pin is metal of its net from the start
---     Standing         of the net at hand
+--     metal_at_first    every pin is metal of its net from the start
+--     Standing          of the net at hand
 --     begun, joined_by  before its first join, and after one
 use Rattle.std.specs.Prelude.{ℕ, zero, suc, List, [], ◌∷◌, ◌++◌, map, true, false, eqb}
 use Rattle.job.specs.Job.{Job}

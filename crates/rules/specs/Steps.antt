@@ -1,8 +1,8 @@
 -- One move from a place.
 -- Specification: section 2.
---     Made, Stepped     what a move did; or that it is not legal
---     step              the move by the rules
---     price_of, priced   its price; its price and the next place alone
+--     Made, Stepped       what a move did; or that it is not legal
+--     step                the move by the rules
+--     price_of, priced    its price; its price and the next place alone
 use Rattle.std.specs.Prelude.{ℕ, ◌+◌, List, [], true, false}
 use Rattle.paths.specs.Systems.{Step}
 use Rattle.paths.specs.Costs.{Cost, fin, inf}

@@ -1,6 +1,6 @@
 -- The join by a table of costs: the best start, then at each place the lowest move that keeps the cost.
 --     starts                tree vertices, as numbered starts
---     join_from, join_by      what follows a table from a start that was chosen, and from the best
+--     join_from, join_by    what follows a table from a start that was chosen, and from the best
 use Rattle.std.specs.Prelude.{ℕ, List}
 use Rattle.job.specs.Grid.{vertices}
 use Rattle.paths.specs.Costs.{Cost}

@@ -1,8 +1,8 @@
 -- Vertices by number, and the vertex that a move enters.
 -- Specification: sections 1.1 and 2.1.
---     layer_of, row_of, column_of, vertex_by     a vertex taken apart
---     track_index, track_length                where on its track a vertex lies, and how long the track is
---     entered                                the vertex that a move enters, if it stays in the grid
+--     layer_of, row_of, column_of, vertex_by    a vertex taken apart
+--     track_index, track_length                 where on its track a vertex lies, and how long the track is
+--     entered                                   the vertex that a move enters, if it stays in the grid
 use Rattle.std.specs.Prelude.{ℕ, zero, suc, ◌+◌, ◌-◌, ◌*◌, ◌/◌, ◌%◌, Bool, cond, ltb}
 use Rattle.job.specs.Grid.{Grid, Vertex, steps_column, stride_of}
 

@@ -1,10 +1,10 @@
 -- What one net sees at a vertex.
 -- Specification: section 2.2.
---     View                       blocked, taken, inside the guide
+--     View                   blocked, taken, inside the guide
 --     on_layers, on_rows, on_columns, in_box, in_guide
 --                                the box test, axis by axis, and the guide of a net
---     member, others_hold         whether a vertex is among a net's, or among another net's
---     view_of                     what net k sees where each net has its metal
+--     member, others_hold    whether a vertex is among a net's, or among another net's
+--     view_of                what net k sees where each net has its metal
 use Rattle.std.specs.Prelude.{ℕ, zero, suc, List, [], ◌∷◌, map, Bool, true, false, ◌&&◌, ◌||◌, not, leb, ltb, eqb}
 use Rattle.job.specs.Lists.{any}
 use Rattle.job.specs.Grid.{Grid, Vertex, vertices, vertex_number}

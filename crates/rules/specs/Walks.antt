@@ -1,9 +1,9 @@
 -- Lists of moves that join a net.
 -- Specification: sections 3.2 and 3.3.
---     system                 places and priced moves, with the unjoined pins as goals
---     Rival, Route           a list of moves from the tree to an unjoined pin
---     Walked, walk           where a list of moves leads, with what each did
---     vertices_of, laid_of     the vertices that moves entered, and those that they laid
+--     system                  places and priced moves, with the unjoined pins as goals
+--     Rival, Route            a list of moves from the tree to an unjoined pin
+--     Walked, walk            where a list of moves leads, with what each did
+--     vertices_of, laid_of    the vertices that moves entered, and those that they laid
 --     total, walk_cost, ..    a sum over moves: their cost, added steps and penalised segments
 use Rattle.std.specs.Prelude.{ℕ, ◌+◌, ◌≡◌, true}
 use mathlib.Core.List.{List, [], ◌∷◌, map, flat_map}

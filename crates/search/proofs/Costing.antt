@@ -1,11 +1,11 @@
 -- The cost that an entry tells, and what is left at least.
---     cost_in_lem, in_cost            a key and its cost
---     costs_told, told_costs      the same of the place with a number
---     cost_touched                a place with a cost is touched
---     same-costs                  entries with the same keys tell the same costs
---     left_place, told_small      what is left from a place, by its number; it is small
---     nearer_by                   a move brings a place nearer by 15 times its price at most
---     bounds_low                  no rival costs less than is left
+--     cost_in_lem, in_cost      a key and its cost
+--     costs_told, told_costs    the same of the place with a number
+--     cost_touched              a place with a cost is touched
+--     same-costs                entries with the same keys tell the same costs
+--     left_place, told_small    what is left from a place, by its number; it is small
+--     nearer_by                 a move brings a place nearer by 15 times its price at most
+--     bounds_low                no rival costs less than is left
 use Prim.Native.Nat.{ℕ, zero, suc, ◌+◌, ◌-◌, ◌*◌, ◌/◌, ◌^◌, ◌≤◌, ◌<◌}
 use mathlib.Core.Path.{◌≡◌, refl, ap}
 use mathlib.Core.List.{List}

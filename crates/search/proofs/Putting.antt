@@ -1,7 +1,7 @@
 -- A lead put on a settled place: the layout is kept.
---     lead_other, lead_keys, lead_slot_lem     a lead changes one word, and no key
---     lead_there, lead_done, done_lead     on a settled place it leaves the same places settled
---     laid_lead                            it keeps the layout
+--     lead_other, lead_keys, lead_slot_lem    a lead changes one word, and no key
+--     lead_there, lead_done, done_lead        on a settled place it leaves the same places settled
+--     laid_lead                               it keeps the layout
 use Prim.Native.Nat.{ℕ, ◌+◌, ◌-◌, ◌<◌}
 use mathlib.Core.Path.{◌≡◌, sym, ap, ◌∙◌}
 use mathlib.Core.List.{List}

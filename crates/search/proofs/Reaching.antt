@@ -4,7 +4,7 @@
 --     attempt_to                       a move that leads to a place
 --     reach_stopped, _enters, _goes    what trying it does
 --     reach_not                        one that leads nowhere, or is passed over, does nothing
---     no_goals_lem                         while places are settled, no place with a key lies on an unjoined pin
+--     no_goals_lem                     while places are settled, no place with a key lies on an unjoined pin
 use Prim.Native.Nat.{ℕ, suc, ◌+◌, ◌*◌, ◌≤◌, ◌<◌, min}
 use mathlib.Core.Path.{◌≡◌, refl, sym, ap, ◌∙◌}
 use mathlib.Core.Logic.{◌⊎◌, inl, inr}

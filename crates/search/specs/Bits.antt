@@ -1,6 +1,6 @@
 -- A byte with a bit for each move.
 --     bit_of       the bit of a move
---     HasMove     it is set
+--     HasMove      it is set
 --     with_move    the byte with it set
 use Rattle.std.specs.Prelude.{ℕ, zero, suc, ◌+◌, ◌/◌, ◌%◌, ◌≡◌, cond, eqb}
 

@@ -1,7 +1,7 @@
 -- The work slice before a search, and after one that found an unjoined pin.
---     Blank        two words for each place, all zero
---     Charted      the costs from the tree at the best cost, and a lead on each place of a cheapest join,
---                  which tells the lowest move that leads on
+--     Blank         two words for each place, all zero
+--     Charted       the costs from the tree at the best cost, and a lead on each place of a cheapest join,
+--                   which tells the lowest move that leads on
 --     lowest_led    the lowest start with a lead
 use Rattle.std.specs.Prelude.{ℕ, ◌+◌, ◌^◌, ◌≤◌, ◌<◌, ◌≡◌, List, true, length, get_or}
 use Rattle.paths.specs.Costs.{fin}

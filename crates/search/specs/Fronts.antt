@@ -1,13 +1,13 @@
 -- What the entries of the work slice tell of a search from the tree.
---     system_by                   places and moves, with an unjoined pin told by its byte
---     starts_by                   the vertices of the tree, told by their bytes
---     left_at, cost_in             what is left at least from the place with a number, times 15; the cost that
+--     system_by               places and moves, with an unjoined pin told by its byte
+--     starts_by               the vertices of the tree, told by their bytes
+--     left_at, cost_in        what is left at least from the place with a number, times 15; the cost that
 --                                a key tells
---     costs, reached_by           the cost to each place that has an entry
---     at_least                    what is left at least from a place
---     lead_slot, with_lead         the slot of a lead that tells a move; the slice with such a lead
---     led_by, lead_at              whether a place has a lead, and the move that it tells
---     no_goal, best_by             the cost of the cheapest goal found
+--     costs, reached_by       the cost to each place that has an entry
+--     at_least                what is left at least from a place
+--     lead_slot, with_lead    the slot of a lead that tells a move; the slice with such a lead
+--     led_by, lead_at         whether a place has a lead, and the move that it tells
+--     no_goal, best_by        the cost of the cheapest goal found
 use Rattle.std.specs.Prelude.{ℕ, zero, suc, ◌+◌, ◌-◌, ◌*◌, ◌/◌, ◌%◌, List, Bool, cond, get_or, set, eqb, ltb}
 use Rattle.job.specs.Grid.{vertices}
 use Rattle.job.specs.Job.{largest_min_length}

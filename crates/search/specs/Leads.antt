@@ -1,10 +1,10 @@
 -- The moves of cheapest joins, by the entries and the leads.
---     lead_by        whether a move leads to a goal at the best cost, or on to a lead at its exact distance
---     lowest_by      the lowest such move
---     OnlyMoves     no move leads on but those of a byte
---     Asked         what asking a settled place does: it gets a lead that tells the lowest move that leads
---                   on, and then the moves that enter its vertex have their bits
---     Answered      and what is answered: the lower start
+--     lead_by      whether a move leads to a goal at the best cost, or on to a lead at its exact distance
+--     lowest_by    the lowest such move
+--     OnlyMoves    no move leads on but those of a byte
+--     Asked        what asking a settled place does: it gets a lead that tells the lowest move that leads on,
+--                  and then the moves that enter its vertex have their bits
+--     Answered     and what is answered: the lower start
 use Rattle.std.specs.Prelude.{ℕ, suc, ◌≤◌, ◌<◌, min, ◌≡◌, List, Bool, true, false, length, get_or}
 use Rattle.job.specs.Grid.{vertices}
 use Rattle.paths.specs.Systems.{Step}

@@ -1,9 +1,9 @@
 -- The work slice during a search over n places: an entry for each, the heap from word n on, and the settled
 -- places from word 2n - 1 down, in the order in which they were settled. Each place that was touched is in
 -- the heap or in the list, so that these never meet.
---     list_at      the place settled after so many others
---     Done        a place is settled: touched, and out of the heap
---     Laid        how the slice is laid out
+--     list_at    the place settled after so many others
+--     Done       a place is settled: touched, and out of the heap
+--     Laid       how the slice is laid out
 use Rattle.std.specs.Prelude.{ℕ, ◌+◌, ◌-◌, ◌≤◌, ◌<◌, ◌≡◌, List, get_or}
 use Rattle.heap.specs.Heaps.{key_of, In, Heaped}
 

@@ -1,10 +1,10 @@
 -- One move that is tried from a settled place, in the code's forms.
---     AtPlace                what the code holds of a settled place
---     tried_of                where a move leads, and its price
---     OwedFor                what a via owes, if it was asked
---     fresh_code, Passed      the number of a vertex's fresh place, and that a place has a key that a move at
---                            a price does not lower
---     Attempted              a move that was tried, or passed over
+--     AtPlace               what the code holds of a settled place
+--     tried_of              where a move leads, and its price
+--     OwedFor               what a via owes, if it was asked
+--     fresh_code, Passed    the number of a vertex's fresh place, and that a place has a key that a move at a
+--                           price does not lower
+--     Attempted             a move that was tried, or passed over
 use Rattle.std.specs.Prelude.{ℕ, suc, ◌+◌, ◌*◌, ◌≤◌, ◌<◌, ◌≡◌, ◌⊎◌, List, get_or}
 use Rattle.job.specs.Structs.{grid_of, vertex_struct}
 use Rattle.paths.specs.Systems.{Step, blocked, to}

@@ -1,9 +1,9 @@
 -- The tree and the unjoined pins of the net at hand, as the code holds them: a byte for each vertex.
---     spot_of, Spots     the byte of a vertex: 1 on the tree, 2 an unjoined pin
+--     spot_of, Spots    the byte of a vertex: 1 on the tree, 2 an unjoined pin
 --     Pins              the pins of a net in an array
---     put_all            a byte put at several vertices
---     begun_spots        the bytes before a net's first join
---     some_unjoined      whether one of some pins is unjoined
+--     put_all           a byte put at several vertices
+--     begun_spots       the bytes before a net's first join
+--     some_unjoined     whether one of some pins is unjoined
 use Rattle.std.specs.Prelude.{ℕ, ◌≤◌, ◌<◌, ◌≡◌, List, [], ◌∷◌, Bool, cond, length, get_or, set, take, eqb}
 use Rattle.job.specs.Lists.{any, All}
 use Rattle.job.specs.Grid.{Grid, vertices}

@@ -1,10 +1,10 @@
 -- Another net's metal, told by the map's code.
---     code_none, code_many, code_more, code_some     the code where no, several, more, some nets' metal
---                                                    covers a vertex
---     taken_code_lem                                     a vertex is taken where its code is neither 0 nor the
---                                                    net's own
---     holds_at, code_own                              whether a net's list holds a vertex: it does where the
---                                                    code is the net's own
+--     code_none, code_many, code_more, code_some    the code where no, several, more, some nets' metal covers
+--                                                   a vertex
+--     taken_code_lem                                a vertex is taken where its code is neither 0 nor the
+--                                                   net's own
+--     holds_at, code_own                            whether a net's list holds a vertex: it does where the
+--                                                   code is the net's own
 use Prim.Native.Nat.{ℕ, zero, suc, ◌+◌, ◌≤◌, ◌<◌}
 use mathlib.Core.Path.{◌≡◌, refl, sym, ap, ◌∙◌}
 use mathlib.Core.List.{List, [], ◌∷◌}

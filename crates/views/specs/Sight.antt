@@ -1,15 +1,15 @@
 -- What the net at hand sees, made from the occupants of obstacles and pins, the map's codes, and the net's
 -- pins and boxes.
---     boxes_in                   boxes, from six numbers each
---     taken_code                 whether a code tells of another net's metal
---     seen_byte                  the byte of a vertex
+--     boxes_in                    boxes, from six numbers each
+--     taken_code                  whether a code tells of another net's metal
+--     seen_byte                   the byte of a vertex
 --     in_layer, in_row            a box's vertices on one layer, and on one row
---     guided_byte, GuidedWhere   the bytes of vertices that are found inside the guide
---     NetAtHand                 the net of a job that these are of
---     sight_of                   the byte of a vertex where every net's pins are blocked and every net's metal
---                               is taken
---     own_byte, opened           the byte of one of the net's own pins from that, and all bytes with its pins
---                               made so
+--     guided_byte, GuidedWhere    the bytes of vertices that are found inside the guide
+--     NetAtHand                   the net of a job that these are of
+--     sight_of                    the byte of a vertex where every net's pins are blocked and every net's
+--                                 metal is taken
+--     own_byte, opened            the byte of one of the net's own pins from that, and all bytes with its
+--                                 pins made so
 use Rattle.std.specs.Prelude.{ℕ, zero, suc, ◌+◌, ◌-◌, ◌%◌, ◌<◌, ◌≡◌, List, [], ◌∷◌, ◌++◌, Bool, true, ◌&&◌, not, cond, length, get_or, set, take, eqb}
 use Rattle.job.specs.Grid.{Grid, Vertex, vertices}
 use Rattle.job.specs.Job.{Box, Net, Job}

@@ -1,7 +1,7 @@
 -- The metal of the nets to come: joining a net leaves it as it is.
---     Later                                lists of metal before and after net k is joined
---     later_none, later_more, later_on     nothing is laid, something is, one after the other
---     holds_at_lem                             of lists made for each net the one of the net after some nets
+--     Later                               lists of metal before and after net k is joined
+--     later_none, later_more, later_on    nothing is laid, something is, one after the other
+--     holds_at_lem                        of lists made for each net the one of the net after some nets
 use Prim.Native.Nat.{ℕ, zero, suc, ◌<◌}
 use mathlib.Core.Path.{◌≡◌, refl, ap, ◌∙◌}
 use mathlib.Core.List.{List, [], ◌∷◌, ◌++◌, map}

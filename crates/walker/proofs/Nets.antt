@@ -1,12 +1,12 @@
 -- The net at hand among the nets of the job, as the code goes through them.
---     Nets                       the nets before and after, the metal, and what the arrays hold
---     nets_begun                 before the first net
---     rules, grid, nets_sized    the job keeps its rules; the code's grid is its grid; what the code may ask
---                                of it
---     hand, split, hand_held     the net at hand; where it stands; how it is loaded
+--     Nets                           the nets before and after, the metal, and what the arrays hold
+--     nets_begun                     before the first net
+--     rules, grid, nets_sized        the job keeps its rules; the code's grid is its grid; what the code may
+--                                    ask of it
+--     hand, split, hand_held         the net at hand; where it stands; how it is loaded
 --     own, own_pins_lem, pins_fit    its pins, and the array of them
---     at_net                     what is known before its first record
---     nets_on                    after its last
+--     at_net                         what is known before its first record
+--     nets_on                        after its last
 --     net_below, nets_room, nets_kept
 use Prim.Native.Nat.{ℕ, suc, ◌+◌, ◌-◌, ◌≤◌, ◌<◌}
 use mathlib.Core.Path.{◌≡◌, refl, sym, ap, subst, ◌∙◌}

@@ -1,10 +1,10 @@
 -- What the arrays stand for while a join is walked.
---     walked_by          a standing after the moves so far
---     stood_entered     a move that is entered
---     stood_begun       before the first move
---     stood_joined      after the last
---     end_entered       the end of a join is among the vertices that it enters
---     net_joined        what is known before a record is known after a join
+--     walked_by        a standing after the moves so far
+--     stood_entered    a move that is entered
+--     stood_begun      before the first move
+--     stood_joined     after the last
+--     end_entered      the end of a join is among the vertices that it enters
+--     net_joined       what is known before a record is known after a join
 use Prim.Native.Nat.{ℕ, zero, suc, ◌<◌}
 use mathlib.Core.Path.{◌≡◌, refl, sym, ap, subst, ◌∙◌}
 use mathlib.Core.List.{List, [], ◌∷◌, ◌++◌, flat_map, append_assoc, append-nil}

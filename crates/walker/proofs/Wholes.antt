@@ -1,9 +1,9 @@
 -- A whole job: from its reading to the map before the first net, and from the last net to the map at the end.
---     plan_grid, plan_room, pins_held       what laying the pins asks
---     laid_kept, nets_held, after_long      what going through the nets asks, and that the map has room after
---                                           them
---     read_grid, finished_map_lem               the map with obstacles put in is the job's
---     count-zeroed, bare_long               by a count of the vertices
+--     plan_grid, plan_room, pins_held     what laying the pins asks
+--     laid_kept, nets_held, after_long    what going through the nets asks, and that the map has room after
+--                                         them
+--     read_grid, finished_map_lem         the map with obstacles put in is the job's
+--     count-zeroed, bare_long             by a count of the vertices
 use Prim.Native.Nat.{ℕ, ◌≤◌}
 use mathlib.Core.Path.{◌≡◌, sym, ap, subst, ◌∙◌}
 use mathlib.Core.List.{List, ◌++◌}

@@ -1,8 +1,8 @@
 -- The forms in which the code holds a walk, the totals and the job.
 --     IsWalk, walk_from, walk_on, WalkFits    a walk
---     IsEntered                             a walk of moves that were all entered
---     totals_of, Bounded                     totals
---     NetsHeld, PlanHeld                    a job that was read
+--     IsEntered                               a walk of moves that were all entered
+--     totals_of, Bounded                      totals
+--     NetsHeld, PlanHeld                      a job that was read
 use Rattle.std.specs.Prelude.{ℕ, ◌+◌, ◌*◌, ◌^◌, ◌≤◌, ◌<◌, ◌≡◌, List, length}
 use Rattle.job.specs.Grid.{vertices}
 use Rattle.job.specs.Job.{Job}

@@ -1,12 +1,12 @@
 -- Laws of bits that are put into bytes.
---     length-put_bits, put_bits-append, put_bytes     the number of bytes, putting in two goes, bytes stay
---                                                   bytes
---     bits_of-put_bits                                all the bits after putting: those before, those put, zero
---                                                   bits, those of later bytes
---     put_earlier, put_later                        what stays
---     put_read, put_field                           a read gives back what was put
---     put_packed                                    put from the start: the packed bits, and what stood
---                                                   beyond
+--     length-put_bits, put_bits-append, put_bytes    the number of bytes, putting in two goes, bytes stay
+--                                                    bytes
+--     bits_of-put_bits                               all the bits after putting: those before, those put,
+--                                                    zero bits, those of later bytes
+--     put_earlier, put_later                         what stays
+--     put_read, put_field                            a read gives back what was put
+--     put_packed                                     put from the start: the packed bits, and what stood
+--                                                    beyond
 -- Not here: how the code puts a part of a field into one byte (Turn).
 use Prim.Native.Nat.{ℕ, suc, ◌+◌, ◌-◌, ◌*◌, ◌/◌, ◌%◌, ◌^◌, ◌≤◌, ◌<◌}
 use mathlib.Core.Path.{◌≡◌, refl, sym, ap, ◌∙◌}

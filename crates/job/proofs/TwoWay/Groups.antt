@@ -1,11 +1,11 @@
 -- One law a group: reading it gives a good value exactly where the value's bits stand there and its rules
 -- hold.
---     layer_fields .. box_fields                  the fields of each group, in order
---     inside_fits .. obstacle_fits              what is inside a good grid fits its fields
---     layer_placed .. obstacle_placed           a group stands there and fits, where it is whole and is the
---                                               one that is read
---     layer_read_lem, box_read, obstacle_read_lem       the law, for one
---     lines_read, boxes_read, obstacles_read    the law, for so many one after the other
+--     layer_fields .. box_fields                     the fields of each group, in order
+--     inside_fits .. obstacle_fits                   what is inside a good grid fits its fields
+--     layer_placed .. obstacle_placed                a group stands there and fits, where it is whole and is
+--                                                    the one that is read
+--     layer_read_lem, box_read, obstacle_read_lem    the law, for one
+--     lines_read, boxes_read, obstacles_read         the law, for so many one after the other
 -- Not here: the head (Heads), pins and nets (Nets).
 use Prim.Native.Nat.{ℕ, zero, suc, ◌+◌, ◌-◌, ◌≤◌}
 use native.Mathlib.Omega.{arith}

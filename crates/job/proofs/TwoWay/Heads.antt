@@ -1,7 +1,7 @@
 -- The head: reading it gives a good head exactly where the head's bits stand first and its rules hold.
---     head_fields, GoodHead     the head's fields, in order; its rules
+--     head_fields, GoodHead    the head's fields, in order; its rules
 --     head_fits, head_held     a good head fits its fields; the fields hold the head that is read
---     head_read_lem                the law
+--     head_read_lem            the law
 use Prim.Native.Nat.{ℕ, suc, ◌-◌, ◌^◌, ◌≤◌, ◌<◌}
 use native.Mathlib.Omega.{arith}
 use mathlib.Core.Path.{◌≡◌, refl}

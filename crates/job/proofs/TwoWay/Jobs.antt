@@ -1,11 +1,11 @@
 -- The whole job, from its bits: reading it gives a good job exactly where the job's bits stand first, zero
 -- bits fill the last byte, nothing follows, and the job keeps the rules.
 --     job_head, job_of, read_after_head    the head of a job; a job from its head and the rest; what is read
---                                      after the head
---     job_placed                       a job's bits stand first where each of its parts stands where it
---                                      belongs
---     after_good, good_after           the law for what is read after the head, one way and the other
---     bits_read                        the law
+--                                          after the head
+--     job_placed                           a job's bits stand first where each of its parts stands where it
+--                                          belongs
+--     after_good, good_after               the law for what is read after the head, one way and the other
+--     bits_read                            the law
 use Prim.Native.Nat.{ℕ, ◌+◌, ◌*◌}
 use native.Mathlib.Omega.{arith}
 use mathlib.Core.Path.{◌≡◌, refl}

@@ -3,7 +3,7 @@
 --     placed, placed_nil           bits with anything behind them do; no bits do
 --     placed-append                two runs do where the first does, and the second behind it
 --     placed-whole                 some bits that stand there are all there
---     widths, length-group_bits     the bits that a group of fields takes
+--     widths, length-group_bits    the bits that a group of fields takes
 --     Fits, FieldsAt               numbers fit their fields; the fields from a position on hold these numbers
 --     group-placed                 a group of fields stands there and fits, where the group is whole and its
 --                                  fields hold its numbers

@@ -1,7 +1,7 @@
 -- Reading in parts: how many were read, and what comes after the head and the layer lines.
 --     then_bind, then_assoc       readings one after the other
 --     many_length, nets_length    as many are read as were asked for
---     read_rest, rest_of_job       obstacles, nets and tail, and a job's bits read up to there and then the
+--     read_rest, rest_of_job      obstacles, nets and tail, and a job's bits read up to there and then the
 --                                 rest
 use Prim.Native.Nat.{ℕ, zero, suc, ◌+◌}
 use mathlib.Core.Path.{◌≡◌, refl, ap}
