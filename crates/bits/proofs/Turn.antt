@@ -6,17 +6,18 @@
 --         a part put together with what a byte keeps
 --     field_byte, field_in_byte, field_join
 --         a field in one byte, and a field in two parts
---     Read, read_first, read_room, read_turn, read_last
---         the loop that reads: what it has, its start, the room, a turn, its end
+--     before, InByte, read_room, read_turn
+--         the loops over a field's bytes: the bits before a byte, those in it; the room to read them, and they
+--         are read
 --     put_out, put_in_byte_lem
 --         bits past the last byte, and bits in one byte
---     Put, put_turn, put_last
---         the loop that puts: what is still to do, a turn, its end
+--     put_first, put_turn, put_last
+--         the loop that puts: what it has, a turn, its end
 -- Not here: the laws that callers use (Laws).
-use Prim.Native.Nat.{ℕ, zero, suc, ◌+◌, ◌-◌, ◌*◌, ◌/◌, ◌%◌, ◌^◌, ◌≤◌, ◌<◌}
+use Prim.Native.Nat.{ℕ, zero, suc, ◌+◌, ◌-◌, ◌*◌, ◌/◌, ◌%◌, ◌^◌, ◌≤◌, ◌<◌, min, max}
 use mathlib.Core.Path.{◌≡◌, refl, sym, ap, ◌∙◌}
 use mathlib.Core.List.{List, [], ◌∷◌, ◌++◌}
-use native.Mathlib.Nat.{not-suc-le-zero, add-sub_cancel_left, pow-suc, div-one, sub_self, le_refl, mod-eq_of_lt, mod-lt, one-mul, mul-le-mul_right, le_trans}
+use native.Mathlib.Nat.{not-suc-le-zero, add-sub_cancel_left, pow-suc, div-one, sub_self, mod-eq_of_lt, mod-lt, one-mul, mul-le-mul_right, le_trans}
 use native.Mathlib.Decide.{dec_le}
 use native.Mathlib.Numerals.{one-add, add-one-le}
 use native.Mathlib.Omega.{arith}
@@ -24,7 +25,7 @@ use lib.ListN.{length, take, drop, get_or, set, length-drop, length-set}
 use lib.Dec.{leb}
 use lib.Seq.{take-add, take-append-le, drop-append-le, drop-drop, length-take-le, set-set, set_out, get_or-set_same}
 use lib.Arith.{digits_lt}
-use lib.Pow.{shl_exact, shl_lt, pow_pos, pow-add, pow-lt, pow_mono, shr_lt, shl-shr, mod-pow-add}
+use lib.Pow.{shl_exact, shr-shr, shl_lt, pow_pos, pow-add, pow-lt, pow_mono, shr_lt, shl-shr, mod-pow-add}
 use borrow.Author.Tests.{le-leb, lt-leb}
 use Rattle.bits.specs.Bits.{field_bits, number, bits_of, field, whole}
 use Rattle.bits.specs.Puts.{put_in_byte, put_bit, put_bits}
@@ -92,10 +93,9 @@ field_byte byte skip count h =
 -- ---- reading
 
 -- a field at a position, where it lies in one byte
-pub field_in_byte : (s : List ℕ) (at k : ℕ) → at + k ≤ 8 * length s → 0 < k → at % 8 + k ≤ 8
-    → field (bits_of s) at k ≡ field (field_bits 8 (get_or s (at / 8) 0)) (at % 8) k
+pub field_in_byte : (s : List ℕ) (at k : ℕ) → at / 8 < length s → at % 8 + k ≤ 8 → field (bits_of s) at k ≡ field (field_bits 8 (get_or s (at / 8) 0)) (at % 8) k
 unfolding field
-field_in_byte s at k h hk l =
+field_in_byte s at k h l =
     let i = at / 8 in
     let p = at % 8 in
     let bits = field_bits 8 (get_or s i 0) in
@@ -103,7 +103,7 @@ field_in_byte s at k h hk l =
     let position : 8 * i + p ≡ at = omega arith in
     let eight : length bits ≡ 8 = length-field_bits 8 (get_or s i 0) in
     let here : drop at (bits_of s) ≡ drop p bits ++ rest =
-    ap (λ (n : ℕ). drop n (bits_of s)) (sym position) ∙ sym (drop-drop p (8 * i) (bits_of s)) ∙ ap (drop p) (byte_at s i (omega arith)) ∙ drop-append-le p bits rest (omega arith) in
+    ap (λ (n : ℕ). drop n (bits_of s)) (sym position) ∙ sym (drop-drop p (8 * i) (bits_of s)) ∙ ap (drop p) (byte_at s i h) ∙ drop-append-le p bits rest (omega arith) in
     ap (λ (r : List ℕ). number (take k r)) here ∙ ap number (take-append-le k (drop p bits) rest (rw length-drop (omega arith)))
 
 -- a field in two parts
@@ -113,43 +113,38 @@ field_join B at w k h =
     let rest : length (take k (drop (at + w) B)) ≡ k = length-take-le k (drop (at + w) B) (rw length-drop (omega arith)) in
     rw (take-add w k (drop at B), drop-drop w at B, number_append (take w (drop at B)) (take k (drop (at + w) B)), rest)
 
--- the loop that reads, at its head: value is the field of the bits before at, and left bits are still to read
-pub record Read (s : List ℕ) (at₀ width at left value : ℕ) : Type 0 where
-  pub position : at + left ≡ at₀ + width
-  pub part : left ≤ width
-  pub value_is : value ≡ field (bits_of s) at₀ (width - left)
+-- how many bits of a field stand before byte i
+abbrev pub before : (at width i : ℕ) → ℕ
+before at width i = min width (8 * i - at)
 
--- where it begins
-pub read_first : (s : List ℕ) (at width : ℕ) → Read s at width at width 0
-unfolding field number
-read_first s at width = record { position = refl; part = le_refl width; value_is = rw sub_self }
+-- the loops over the bytes of a field, in a turn: its bits in byte i stand from `from` up to `to`
+pub record InByte (at width i from to : ℕ) : Type 0 where
+  pub from_is : from ≡ max at (8 * i)
+  pub to_is : to ≡ min (at + width) (8 * i + 8)
+  pub first : at / 8 ≤ i
+  pub last : i < (at + width + 7) / 8
 
--- there is room for k bits more
-pub read_room : (s : List ℕ) (at₀ width at left value k : ℕ) → Read s at₀ width at left value → width ≤ 64 → k ≤ left → (value + 1) * 2 ^ k ≤ 2 ^ 64
-read_room s at₀ width at left value k r h l =
-    let d = width - left in
-    let below : value < 2 ^ d = rw r.value_is (field_below (bits_of s) at₀ d (bits_of_bits s)) in
-    le_trans (mul-le-mul_right (2 ^ k) (add-one-le below)) (rw (← (pow-add 2 d k)) (pow_mono {i = d + k} {j = 64} (omega arith)))
+module _ (s : List ℕ) {at width value i from to : ℕ} (p : InByte at width i from to) (e : value ≡ field (bits_of s) at (before at width i)) where
+  -- there is room for them
+  pub read_room : width ≤ 64 → (value + 1) * 2 ^ (to - from) ≤ 2 ^ 64
+  read_room h =
+      let d = before at width i in
+      let k = to - from in
+      let below : value < 2 ^ d = rw e (field_below (bits_of s) at d (bits_of_bits s)) in
+      let narrow : d + k ≤ 64 = omega (arith, p.from_is, p.to_is, p.first, p.last) in
+      le_trans (mul-le-mul_right (2 ^ k) (add-one-le below)) (rw (← (pow-add 2 d k)) (pow_mono {i = d + k} {j = 64} narrow))
 
--- a turn: the next k bits lie in one byte
-pub read_turn : (s : List ℕ) (at₀ width at left value k : ℕ) → Read s at₀ width at left value → at₀ + width ≤ 8 * length s → 0 < k → k ≤ left → at % 8 + k ≤ 8
-    → Read s at₀ width (at + k) (left - k) (value * 2 ^ k + field (field_bits 8 (get_or s (at / 8) 0)) (at % 8) k)
-read_turn s at₀ width at left value k r h hk l lb =
-    let d = width - left in
-    let more : width - (left - k) ≡ d + k = omega arith in
-    let here : at₀ + d ≡ at = omega arith in
-    record {
-      position = omega arith;
-      part = omega arith;
-      value_is =
-          rw (more, field_join (bits_of s) at₀ d k (rw length-bits_of (omega arith)), here, ← r.value_is, field_in_byte s at k (omega arith) hk lb);
-    }
-
--- where it ends
-pub read_last : (s : List ℕ) (at₀ width at left value : ℕ) → Read s at₀ width at left value → left ≤ 0 → (value ≡ field (bits_of s) at₀ width) × (at ≡ at₀ + width)
-read_last s at₀ width at left value r h =
-    let all : width - left ≡ width = omega arith in
-    (rw all at r.value_is, omega arith)
+  -- they are read
+  pub read_turn : at + width ≤ 8 * length s → value * 2 ^ (to - from) + field (field_bits 8 (get_or s i 0)) (from % 8) (to - from) ≡ field (bits_of s) at (before at width (i + 1))
+  read_turn h =
+      let d = before at width i in
+      let k = to - from in
+      let more : before at width (i + 1) ≡ d + k = omega (arith, p.from_is, p.to_is, p.first, p.last) in
+      let here : at + d ≡ from = omega (arith, p.from_is, p.first, p.last) in
+      let byte : from / 8 ≡ i = omega (arith, p.from_is, p.first) in
+      let inside : from / 8 < length s = omega (arith, byte, p.last) in
+      let joined = field_join (bits_of s) at d k (rw length-bits_of (omega (arith, p.from_is, p.to_is, p.first, p.last))) in
+      rw (more, joined, here, ← e, field_in_byte s from k inside (omega (arith, p.from_is, p.to_is)), byte)
 
 -- ---- putting
 
@@ -208,28 +203,26 @@ pub put_in_byte_lem : (s : List ℕ) (at w v : ℕ) → at / 8 < length s → 0 
 put_in_byte_lem s at zero v h hw l = absurd (not-suc-le-zero hw)
 put_in_byte_lem s at (suc w) v h hw l = put_some w s at v h l
 
--- the loop that puts, at its head: to put the left lowest bits from at on is all that is still to do
-pub record Put (buf₀ : List ℕ) (width value at₀ : ℕ) (buf : List ℕ) (at left : ℕ) : Type 0 where
-  pub position : at + left ≡ at₀ + width
-  pub part : left ≤ width
-  pub rest : put_bits buf at (field_bits left value) ≡ put_bits buf₀ at₀ (field_bits width value)
+-- the first d bits of a field put
+abbrev pub put_first : (buf : List ℕ) (at width value d : ℕ) → List ℕ
+put_first buf at width value d = put_bits buf at (field_bits d (value / 2 ^ (width - d)))
 
--- a turn: the first k of them are put
-pub put_turn : (buf₀ : List ℕ) (width value at₀ : ℕ) (buf : List ℕ) (at left k : ℕ) → Put buf₀ width value at₀ buf at left → k ≤ left
-    → Put buf₀ width value at₀ (put_bits buf at (field_bits k (value / 2 ^ (left - k)))) (at + k) (left - k)
-put_turn buf₀ width value at₀ buf at left k r h =
-    let all : k + (left - k) ≡ left = omega arith in
-    let parts = put_bits-append buf at (field_bits k (value / 2 ^ (left - k))) (field_bits (left - k) value) in
-    record {
-      position = omega arith;
-      part = omega arith;
-      rest = sym (rw (length-field_bits, ← (field_bits_split k (left - k) value), all) at parts) ∙ r.rest;
-    }
+-- a turn of the loop that puts: those in byte i are put
+pub put_turn : (buf : List ℕ) {at width i from to : ℕ} (value : ℕ) → InByte at width i from to
+    → put_bits (put_first buf at width value (before at width i)) from (field_bits (to - from) (value / 2 ^ (at + width - to))) ≡ put_first buf at width value (before at width (i + 1))
+put_turn buf {at} {width} {i} {from} {to} value p =
+    let d = before at width i in
+    let k = to - from in
+    let left = at + width - to in
+    let more : before at width (i + 1) ≡ d + k = omega (arith, p.from_is, p.to_is, p.first, p.last) in
+    let here : at + d ≡ from = omega (arith, p.from_is, p.first, p.last) in
+    let rest : width - (d + k) ≡ left = omega (arith, p.from_is, p.to_is, p.first, p.last) in
+    let high : width - d ≡ left + k = omega (arith, p.from_is, p.to_is, p.first, p.last) in
+    let two = put_bits-append buf at (field_bits d (value / 2 ^ (left + k))) (field_bits k (value / 2 ^ left)) in
+    rw (more, rest, high, field_bits_split d k (value / 2 ^ left), shr-shr value left k) (sym (rw (length-field_bits, here) at two))
 
--- where it ends
-pub put_last : (buf₀ : List ℕ) (width value at₀ : ℕ) (buf : List ℕ) (at left : ℕ) → Put buf₀ width value at₀ buf at left → left ≤ 0
-    → (at ≡ at₀ + width) × (buf ≡ put_bits buf₀ at₀ (field_bits width value))
-unfolding put_bits field_bits
-put_last buf₀ width value at₀ buf at left r h =
-    let none : left ≡ 0 = omega arith in
-    (omega arith, rw none at r.rest)
+-- where it ends: all are put
+pub put_last : (buf : List ℕ) (at width value i : ℕ) → (at + width + 7) / 8 ≤ i → put_first buf at width value (before at width i) ≡ put_bits buf at (field_bits width value)
+put_last buf at width value i h =
+    let all : before at width i ≡ width = omega arith in
+    rw (all, sub_self, div-one)

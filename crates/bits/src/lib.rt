@@ -9,7 +9,7 @@ ghost use Rattle.bits.specs.Cursors.{Fitting, Room, field_read};
 
 pub mod part;
 
-use part::{joined, least, part_of, put_part};
+use part::{joined, part_of, put_part};
 
 // A bit position in bytes.
 #[derive(Clone, Copy)]
@@ -38,19 +38,16 @@ impl Cursor {
         requires { Room s.now self.at width }
         ensures { result ≡ field_read s.now self.at width }
     {
-        let mut at = self.at;
-        let mut left = width;
+        let end = self.at + width;
         let mut value: usize = 0;
-        while 0 < left {
-            let count = least(8 - at % 8, left);
-            let part = part_of(s[at / 8], at % 8, count);
-            value = joined(value, count, part);
-            at += count;
-            left -= count;
+        for index in self.at / 8..(end + 7) / 8 {
+            let from = self.at.max(8 * index);
+            let count = end.min(8 * index + 8) - from;
+            value = joined(value, count, part_of(s[index], from % 8, count));
         }
         FieldRead {
             value,
-            next: Cursor { at },
+            next: Cursor { at: end },
         }
     }
 
@@ -59,14 +56,12 @@ impl Cursor {
         requires { Fitting self.at width }
         ensures { (result.at ≡ self.at + width) × (buf.new ≡ put_bits buf.old self.at (field_bits width value)) }
     {
-        let mut at = self.at;
-        let mut left = width;
-        while 0 < left {
-            let count = least(8 - at % 8, left);
-            left -= count;
-            put_part(buf, at, count, value >> left);
-            at += count;
+        let end = self.at + width;
+        for index in self.at / 8..(end + 7) / 8 {
+            let from = self.at.max(8 * index);
+            let to = end.min(8 * index + 8);
+            put_part(buf, from, to - from, value >> (end - to));
         }
-        Cursor { at }
+        Cursor { at: end }
     }
 }

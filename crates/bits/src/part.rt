@@ -1,20 +1,14 @@
 // The part of a field that lies in one byte.
-ghost use Rattle.std.specs.Prelude.{◌≡◌, ◌+◌, ◌-◌, ◌*◌, ◌^◌, ◌/◌, ◌%◌, ◌<◌, ◌≤◌, min};
+ghost use Rattle.std.specs.Prelude.{◌≡◌, ◌+◌, ◌-◌, ◌*◌, ◌^◌, ◌/◌, ◌%◌, ◌<◌, ◌≤◌};
 ghost use Rattle.bits.specs.Bits.{field_bits, field};
 ghost use Rattle.bits.specs.Puts.{put_bits};
-
-pub fn least(a: usize, b: usize) -> usize
-    ensures { result ≡ min a b }
-{
-    if a < b { a } else { b }
-}
 
 // The `count` bits of a byte after its first `skip`.
 pub fn part_of(byte: u8, skip: usize, count: usize) -> usize
     requires { skip + count ≤ 8 }
     ensures { result ≡ field (field_bits 8 byte) skip count }
 {
-    ((byte as usize) >> (8 - skip - count)) % (1 << count)
+    (usize::from(byte) >> (8 - skip - count)) % (1 << count)
 }
 
 // A number with `count` bits more after its own.
@@ -25,14 +19,14 @@ pub fn joined(value: usize, count: usize, part: usize) -> usize
     (value << count) + part
 }
 
-// Puts the lowest `count` bits of a number, at least one and all in one byte.
+// Puts the lowest `count` bits of a number, all in one byte.
 pub fn put_part(buf: &mut [u8], at: usize, count: usize, value: usize)
-    requires { (0 < count) × (at % 8 + count ≤ 8) }
+    requires { at % 8 + count ≤ 8 }
     ensures { buf.new ≡ put_bits buf.old at (field_bits count value) }
 {
     let index = at / 8;
     let skip = at % 8;
-    if index < buf.len() {
+    if 0 < count && index < buf.len() {
         buf[index] = in_byte(buf[index], skip, count, value);
     }
 }
@@ -42,7 +36,7 @@ pub fn in_byte(byte: u8, skip: usize, count: usize, value: usize) -> u8
     requires { skip + count ≤ 8 }
     ensures { result ≡ byte / 2 ^ (8 - skip) * 2 ^ (8 - skip) + value % 2 ^ count * 2 ^ (8 - skip - count) }
 {
-    let kept = (byte as usize) >> (8 - skip);
+    let kept = usize::from(byte) >> (8 - skip);
     let part = value % (1 << count);
     (((kept << count) + part) << (8 - skip - count)) as u8
 }

@@ -4,16 +4,23 @@
 --     leaves_none, leaves_next                         nothing inside the span, one price more a step off it
 --     axis_size, axis_turn                             an axis changes no length, and one more entry of it
 --     axis_told, axis_small                            all of its entries, and all small
---     cheapest_turn, cheapest_fits, cheapest_of_lem    one more price; the lowest is small, and none is lower
+--     prices_of                                        the prices of layer lines, told one by one
+--     fold_fits, cheapest_fold                         the lowest, as prices are folded
+--     cheapest_fits, cheapest_of_lem                   it is small, and none is lower
 use Prim.Native.Nat.{ℕ, zero, suc, ◌+◌, ◌-◌, ◌*◌, ◌^◌, ◌≤◌, ◌<◌, min}
-use mathlib.Core.Path.{◌≡◌, refl, ◌∙◌}
-use mathlib.Core.List.{List}
+use mathlib.Core.Path.{◌≡◌, refl, sym, ap, ◌∙◌}
+use mathlib.Core.List.{List, [], ◌∷◌, map}
 use mathlib.Core.Bool.{Bool, true, false, cond}
 use native.Mathlib.Nat.{mul-zero, mul-suc}
 use native.Mathlib.Omega.{arith}
-use lib.ListN.{length, get_or, set, length-set}
+use lib.ListN.{length, get_or, set, take, length-set, length-map}
 use lib.Dec.{eqb}
 use borrow.Author.Count.{below_more}
+use Rattle.std.specs.List.{fold}
+use Rattle.std.proofs.lemmas.List.{same_lists, get_or-map}
+use Rattle.std.proofs.lemmas.List.Sums.{fold_more}
+use Rattle.job.specs.Structs.{no_line}
+use Rattle.job.specs.declared.groups.Layer.{Layer}
 use Rattle.bounds.specs.declared.fill.PinSpan.{PinSpan}
 use Rattle.job.proofs.Sizes.{product_within}
 use Rattle.rules.proofs.Fitting.{one_more}
@@ -95,11 +102,26 @@ module _ (span : PinSpan) (price first : ℕ) (before : List ℕ) where
 
 -- ---- the cheapest price
 
+-- the prices of layer lines, told one by one
+pub prices_of : (price : Layer → ℕ) (lines : List Layer) (prices : List ℕ) → length prices ≡ length lines
+    → ((k d : ℕ) → k < length lines → get_or prices k d ≡ price (get_or lines k no_line)) → prices ≡ map price lines
+prices_of price lines prices long each =
+    same_lists prices (map price lines) (long ∙ sym (length-map lines price))
+    (λ k d h. each k d (omega (arith, long, h)) ∙ sym (get_or-map price lines k no_line d (omega (arith, long, h))))
+
+-- none is above where the fold begins
+pub fold_fits : (a : ℕ) (prices : List ℕ) → fold min a prices ≤ a
+fold_fits a [] = omega arith
+fold_fits a (p ∷ ps) = omega (arith, fold_fits (min a p) ps)
+
 module _ (prices : List ℕ) where
-  -- the next one
-  pub cheapest_turn : (n : ℕ) {price next : ℕ} → price ≡ cheapest_of prices n → next ≡ min price (get_or prices n 0) → next ≡ cheapest_of prices (n + 1)
+  -- the first prices, folded
+  pub cheapest_fold : (n : ℕ) → n ≤ length prices → fold min 1023 (take n prices) ≡ cheapest_of prices n
   unfolding cheapest_of
-  cheapest_turn n so_far is = rw (one_more n, is, so_far) refl
+  cheapest_fold zero h = refl
+  cheapest_fold (suc n) h =
+      let more = fold_more min 1023 prices n 0 (omega arith) in
+      rw one_more at more ∙ ap (λ a. min a (get_or prices n 0)) (cheapest_fold n (omega arith))
 
   pub cheapest_fits : (n : ℕ) → cheapest_of prices n < 1024
   unfolding cheapest_of

@@ -4,11 +4,11 @@
 --     bounds_made      the same of what the code makes
 use Prim.Native.Nat.{ℕ, ◌+◌, ◌-◌, ◌*◌, ◌≤◌, ◌<◌}
 use mathlib.Core.Path.{◌≡◌, refl, ap, ◌∙◌}
-use mathlib.Core.List.{List}
+use mathlib.Core.List.{List, map}
 use native.Mathlib.Omega.{arith}
-use lib.ListN.{length, get_or}
+use lib.ListN.{length, get_or, get_or-map}
 use Rattle.job.specs.Grid.{Grid, vertices}
-use Rattle.job.specs.Structs.{grid_of}
+use Rattle.job.specs.Structs.{grid_of, layer_struct, no_line}
 use Rattle.bounds.specs.declared.fill.PinBox.{PinBox}
 use Rattle.job.specs.declared.groups.Layer.{Layer as LayerStruct}
 use Rattle.paths.specs.Systems.{to}
@@ -16,7 +16,7 @@ use Rattle.paths.specs.Costs.{Cost, fin, inf, plus}
 use Rattle.rules.specs.Tracks.{layer_of, row_of, column_of}
 use Rattle.rules.specs.Views.{View}
 use Rattle.rules.specs.Segments.{Direction, low, high, Kind, along, kind_of, Place}
-use Rattle.rules.specs.Prices.{Tech, base, guide_at, short_at, sum_cost, entering}
+use Rattle.rules.specs.Prices.{Tech, line_of, base, guide_at, short_at, sum_cost, entering}
 use Rattle.rules.specs.Steps.{step, priced}
 use Rattle.rules.specs.Places.{GoodPlace}
 use Rattle.rules.specs.Structs.{TechFits, line_at, tech_by}
@@ -28,7 +28,7 @@ use Rattle.rules.proofs.Moves.{step_parts}
 use Rattle.rules.proofs.Held.{line_held}
 use Rattle.rules.proofs.Lists.{Filled}
 use Rattle.bounds.specs.Bounds.{bound_at, SmallBounds, Bounding}
-use Rattle.bounds.specs.Fills.{Among, unjoined_box, cheapest_of, leaves, axis_filled, filled}
+use Rattle.bounds.specs.Fills.{Among, unjoined_box, wires, vias, cheapest_of, leaves, axis_filled, filled}
 use Rattle.bounds.proofs.Coordinates.{OneOn, via_on, one_near, Changed, column, row, layer, changed, small_sum}
 use Rattle.bounds.proofs.Axes.{leaves_none, leaves_next, axis_told, axis_small, cheapest_fits, cheapest_of_lem}
 use Rattle.bounds.proofs.Boxes.{box_low, box_holds}
@@ -46,24 +46,30 @@ unfolding entering
 entering-least t view v w m e = plus-least (base t v w m) (sum_cost (guide_at t view w) (short_at t view w)) e
 
 module _ {t : TechStruct} (tech : TechFits t) {v w : ℕ} (on : v < vertices (grid_of t.grid)) (into : w < vertices (grid_of t.grid)) where
+  -- a price in the layer line of a vertex
+  price_held : (price : LayerStruct → ℕ) {u : ℕ} → u < vertices (grid_of t.grid)
+      → get_or (map price t.layers) (layer_of (grid_of t.grid) u) (price no_line) ≡ price (layer_struct (line_of (tech_by t) u))
+  unfolding line_at
+  price_held price {u} there = get_or-map price t.layers (layer_of (grid_of t.grid) u) no_line ∙ ap price (line_held tech there)
+
   -- a step costs at least the cheapest wire
-  wire_least : (m : ℕ) (d : Direction) → kind_of m ≡ along d → cheapest_of t.layers.wire t.grid.layers ≤ base (tech_by t) v w m
-  unfolding base line_at
+  wire_least : (m : ℕ) (d : Direction) → kind_of m ≡ along d → cheapest_of (wires t) t.grid.layers ≤ base (tech_by t) v w m
+  unfolding base no_line
   wire_least m d step =
-      let held = ap (λ (l : LayerStruct). l.wire) (line_held tech into) in
-      rw (step, base) (omega (arith, held, cheapest_of_lem t.layers.wire _ _ (vertex_below (grid_of t.grid) into).layer))
+      let held = price_held (λ (l : LayerStruct). l.wire) into in
+      rw (step, base) (omega (arith, held, cheapest_of_lem (wires t) _ _ (vertex_below (grid_of t.grid) into).layer))
 
   -- a via costs at least the cheapest via: the lower of its layers is not the top one
   via_least : (m : ℕ) (d : Direction) → kind_of m ≡ via_on d → OneOn d (layer_of (grid_of t.grid) v) (layer_of (grid_of t.grid) w)
-      → cheapest_of t.layers.via (t.grid.layers - 1) ≤ base (tech_by t) v w m
-  unfolding base line_at via_on OneOn
+      → cheapest_of (vias t) (t.grid.layers - 1) ≤ base (tech_by t) v w m
+  unfolding base no_line via_on OneOn
   via_least m low goes next =
-      let held = ap (λ (l : LayerStruct). l.via) (line_held tech into) in
-      let lowest = cheapest_of_lem t.layers.via (t.grid.layers - 1) (layer_of (grid_of t.grid) w) in
+      let held = price_held (λ (l : LayerStruct). l.via) into in
+      let lowest = cheapest_of_lem (vias t) (t.grid.layers - 1) (layer_of (grid_of t.grid) w) in
       rw (goes, base) (omega (arith, held, lowest (omega (arith, next, (vertex_below (grid_of t.grid) on).layer))))
   via_least m high goes next =
-      let held = ap (λ (l : LayerStruct). l.via) (line_held tech on) in
-      let lowest = cheapest_of_lem t.layers.via (t.grid.layers - 1) (layer_of (grid_of t.grid) v) in
+      let held = price_held (λ (l : LayerStruct). l.via) on in
+      let lowest = cheapest_of_lem (vias t) (t.grid.layers - 1) (layer_of (grid_of t.grid) v) in
       rw (goes, base) (omega (arith, held, lowest (omega (arith, next, (vertex_below (grid_of t.grid) into).layer))))
 
 -- ---- the table
@@ -76,10 +82,10 @@ module _ {t : TechStruct} (tech : TechFits t) (spots pins : List ℕ) (count : �
   box = unjoined_box g spots pins count
 
   abbrev wire : ℕ
-  wire = cheapest_of t.layers.wire t.grid.layers
+  wire = cheapest_of (wires t) t.grid.layers
 
   abbrev via : ℕ
-  via = cheapest_of t.layers.via (t.grid.layers - 1)
+  via = cheapest_of (vias t) (t.grid.layers - 1)
 
   abbrev rows : List ℕ
   rows = axis_filled box.rows wire 1 t.grid.rows found
@@ -146,11 +152,11 @@ module _ {t : TechStruct} (tech : TechFits t) (spots pins : List ℕ) (count : �
   unfolding filled
   filled_small small =
       let low = box_low g spots pins count in
-      let cheap = cheapest_fits t.layers.wire t.grid.layers in
+      let cheap = cheapest_fits (wires t) t.grid.layers in
       let r = axis_small box.rows wire 1 found t.grid.rows row_room tech.sized.small.rows low.rows cheap small in
       let c = axis_small box.columns wire 258 rows t.grid.columns column_room tech.sized.small.columns low.columns cheap r in
       axis_small box.layers via 516 columns t.grid.layers layer_room (omega (arith, tech.sized.small.layers)) low.layers
-      (cheapest_fits t.layers.via (t.grid.layers - 1)) c
+      (cheapest_fits (vias t) (t.grid.layers - 1)) c
 
   pub bounding : Among g spots pins count → SmallBounds found → Bounding (tech_by t) spots (filled t spots pins count found)
   unfolding tech_by filled

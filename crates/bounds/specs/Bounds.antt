@@ -33,7 +33,7 @@ bound_of bounds x = sum_at bounds (1 + x.row) (258 + x.column) (516 + x.layer)
 unfoldable pub bound_at : Grid → (bounds : List ℕ) → (v : ℕ) → ℕ
 bound_at g bounds v = bound_of bounds (vertex_by g v)
 
-unfoldable pub SmallBounds : (bounds : List ℕ) → Type 0
+abbrev pub SmallBounds : (bounds : List ℕ) → Type 0
 SmallBounds bounds = (k : ℕ) → get_or bounds k 0 ≤ 2 ^ 22
 
 -- nothing is left at an unjoined pin, no move lowers what is left by more than 15 times its price, and all of

@@ -3,13 +3,14 @@
 --     span_with, box_with            a span that takes in one more coordinate, a box that takes in one more
 --                                    vertex
 --     nowhere, unjoined_box          the empty span, and the box of the unjoined ones of the first pins
---     cheapest_of                    the lowest of the first prices
+--     wires, vias, cheapest_of       the prices of the layers, and the lowest of the first ones
 --     leaves, axis_filled, filled    what a coordinate leaves, a table with the entries of an axis, and with
 --                                    those of all three
-use Rattle.std.specs.Prelude.{ℕ, zero, suc, ◌+◌, ◌-◌, ◌*◌, ◌<◌, min, max, ◌≡◌, List, true, cond, get_or, set, take, eqb}
+use Rattle.std.specs.Prelude.{ℕ, zero, suc, ◌+◌, ◌-◌, ◌*◌, ◌<◌, min, max, ◌≡◌, List, true, cond, get_or, set, take, map, eqb}
 use Rattle.job.specs.Lists.{All}
 use Rattle.job.specs.Grid.{Grid, Vertex, vertices}
 use Rattle.job.specs.Structs.{grid_of}
+use Rattle.job.specs.declared.groups.Layer.{Layer}
 use Rattle.bounds.specs.declared.fill.PinSpan.{PinSpan}
 use Rattle.bounds.specs.declared.fill.PinBox.{PinBox}
 use Rattle.rules.specs.Tracks.{vertex_by}
@@ -48,6 +49,13 @@ unjoined_box g spots pins (suc n) =
 
 -- ---- prices
 
+-- of the layers
+abbrev pub wires : Tech → List ℕ
+wires t = map (λ (l : Layer). l.wire) t.layers
+
+abbrev pub vias : Tech → List ℕ
+vias t = map (λ (l : Layer). l.via) t.layers
+
 -- the lowest of the first so many, and of the dearest that a layer line can name
 unfoldable pub cheapest_of : (prices : List ℕ) → (count : ℕ) → ℕ
 cheapest_of prices zero = 1023
@@ -69,7 +77,7 @@ axis_filled span price first (suc n) before = set (axis_filled span price first 
 unfoldable pub filled : Tech → (spots pins : List ℕ) → (count : ℕ) → (before : List ℕ) → List ℕ
 filled t spots pins count before =
     let box = unjoined_box (grid_of t.grid) spots pins count in
-    let wire = cheapest_of t.layers.wire t.grid.layers in
-    let via = cheapest_of t.layers.via (t.grid.layers - 1) in
+    let wire = cheapest_of (wires t) t.grid.layers in
+    let via = cheapest_of (vias t) (t.grid.layers - 1) in
     axis_filled box.layers via 516 t.grid.layers
     (axis_filled box.columns wire 258 t.grid.columns (axis_filled box.rows wire 1 t.grid.rows before))

@@ -1,12 +1,14 @@
 // The bound made for the unjoined pins of a net: the steps off their box, each at the cheapest price.
-ghost use Rattle.std.specs.Prelude.{◌≡◌, ◌+◌, ◌-◌, ◌≤◌, ◌<◌, min, max, length};
+ghost use Rattle.std.specs.Prelude.{◌≡◌, ◌+◌, ◌-◌, ◌≤◌, ◌<◌, min, length};
+ghost use Rattle.std.specs.List.{fold};
 ghost use Rattle.job.specs.Structs.{Small, grid_of, vertex_of};
 ghost use Rattle.rules.specs.Structs.{TechFits, tech_by};
 ghost use Rattle.bounds.specs.Bounds.{SmallBounds, Bounding};
-ghost use Rattle.bounds.specs.Fills.{Among, span_with, box_with, unjoined_box, cheapest_of, leaves, axis_filled, filled};
+ghost use Rattle.bounds.specs.Fills.{Among, span_with, box_with, unjoined_box, leaves, axis_filled, filled};
 
+use crate::bound::Bounds;
 use job::grid::{Grid, Vertex};
-use rules::price::Tech;
+use rules::price::{Prices, Tech};
 use rules::track::vertex_by;
 use tree::UNJOINED;
 
@@ -27,45 +29,28 @@ pub struct PinBox {
 // The dearest that a layer line can name.
 const MOST: usize = 1023;
 
-fn lesser(a: usize, b: usize) -> usize
-    ensures { result ≡ min a b }
-{
-    if a < b { a } else { b }
-}
-
-fn greater(a: usize, b: usize) -> usize
-    ensures { result ≡ max a b }
-{
-    if a < b { b } else { a }
-}
-
-// How far a number lies above another; 0 if it does not.
-fn above(a: usize, b: usize) -> usize
-    ensures { result ≡ a - b }
-{
-    if a < b { 0 } else { a - b }
-}
-
-// A span that reaches as far as a coordinate too.
-fn widened(span: PinSpan, at: usize) -> PinSpan
-    ensures { result ≡ span_with span at }
-{
-    PinSpan {
-        low: lesser(span.low, at),
-        high: greater(span.high, at),
+impl PinSpan {
+    // A span that reaches as far as a coordinate too.
+    fn widened(self, at: usize) -> PinSpan
+        ensures { result ≡ span_with self at }
+    {
+        PinSpan {
+            low: self.low.min(at),
+            high: self.high.max(at),
+        }
     }
 }
 
-fn widened_box(around: PinBox, vertex: Vertex) -> PinBox
-    ensures { result ≡ box_with around (vertex_of vertex) }
-{
-    let layers = widened(around.layers, vertex.layer);
-    let rows = widened(around.rows, vertex.row);
-    let columns = widened(around.columns, vertex.column);
-    PinBox {
-        layers,
-        rows,
-        columns,
+impl PinBox {
+    // A box that reaches as far as a vertex too.
+    fn widened(self, vertex: Vertex) -> PinBox
+        ensures { result ≡ box_with self (vertex_of vertex) }
+    {
+        PinBox {
+            layers: self.layers.widened(vertex.layer),
+            rows: self.rows.widened(vertex.row),
+            columns: self.columns.widened(vertex.column),
+        }
     }
 }
 
@@ -80,25 +65,18 @@ fn unjoined_box(grid: Grid, spots: &[u8; 16384], pins: &[usize; 16], count: usiz
         rows: none,
         columns: none,
     };
-    for i in 0..count {
-        let pin = pins[i];
+    for &pin in &pins[..count] {
         if spots[pin] == UNJOINED {
-            around = widened_box(around, vertex_by(grid, pin));
+            around = around.widened(vertex_by(grid, pin));
         }
     }
     around
 }
 
-// The lowest of the first prices.
-fn cheapest(prices: [usize; 8], count: usize) -> usize
-    requires { count ≤ 8 }
-    ensures { result ≡ cheapest_of prices count }
+fn cheapest(prices: &[usize]) -> usize
+    ensures { result ≡ fold min 1023 prices.now }
 {
-    let mut price = MOST;
-    for layer in 0..count {
-        price = lesser(price, prices[layer]);
-    }
-    price
+    prices.iter().fold(MOST, |least, price| least.min(*price))
 }
 
 // What a coordinate leaves: the steps to the span at a price, times 15, so that a search that counts each
@@ -107,7 +85,7 @@ fn left_at(span: PinSpan, price: usize, at: usize) -> u64
     requires { (span.low ≤ 255) × (price < 1024) × (at < 256) }
     ensures { result ≡ leaves span price at }
 {
-    (15 * (price * (above(span.low, at) + above(at, span.high)))) as u64
+    (15 * (price * (span.low.saturating_sub(at) + at.saturating_sub(span.high)))) as u64
 }
 
 // The entries of all rows, columns or layers.
@@ -120,8 +98,8 @@ fn fill_axis(bounds: &mut [u64], first: usize, count: usize, span: PinSpan, pric
     }
 }
 
-// A bound for the unjoined ones of the first pins.
-pub fn fill_bounds(
+// The entries for the unjoined ones of the first pins.
+fn fill_entries(
     bounds: &mut [u64; 528],
     tech: Tech,
     spots: &[u8; 16384],
@@ -133,11 +111,10 @@ pub fn fill_bounds(
         × (bounds.new ≡ filled tech spots.now pins.now count bounds.old) }
 {
     let grid = tech.grid;
-    let layers = tech.layers;
-    let wires = layers.wire;
-    let vias = layers.via;
-    let wire = cheapest(wires, grid.layers);
-    let via = cheapest(vias, grid.layers - 1);
+    let wires = tech.layers.map(|line| line.wire);
+    let vias = tech.layers.map(|line| line.via);
+    let wire = cheapest(&wires[..grid.layers]);
+    let via = cheapest(&vias[..grid.layers - 1]);
     let around = unjoined_box(grid, spots, pins, count);
     let rows = around.rows;
     let columns = around.columns;
@@ -145,4 +122,19 @@ pub fn fill_bounds(
     fill_axis(bounds, 1, grid.rows, rows, wire);
     fill_axis(bounds, 258, grid.columns, columns, wire);
     fill_axis(bounds, 516, grid.layers, levels, via);
+}
+
+// A bound for the unjoined ones of the first pins, in the table that is lent: one by value is copied.
+pub fn fill_bounds(
+    bounds: &mut Bounds,
+    prices: &Prices,
+    spots: &[u8; 16384],
+    pins: &[usize; 16],
+    count: usize,
+)
+    requires { Among (grid_of prices.now.tech.grid) spots.now pins.now count }
+    ensures { (Bounding (tech_by prices.now.tech) spots.now bounds.new.entries)
+        × (bounds.new.entries ≡ filled prices.now.tech spots.now pins.now count bounds.old.entries) }
+{
+    fill_entries(&mut bounds.entries, prices.tech, spots, pins, count);
 }

@@ -1,5 +1,6 @@
 -- The loops over a report and a plan's counts.
 --     over_turn, over_found, over_done     looking for a count that would not fit
+--     over_pair, first_told                the first such count
 --     none_over_lem, none_fits             where none is found, every sum fits
 --     AddedTo, added_turn, added_done      adding them, one after the other
 --     room_counted, room_number, room_long
@@ -8,21 +9,26 @@
 use Prim.Native.Nat.{ℕ, zero, suc, ◌+◌, ◌-◌, ◌/◌, ◌^◌, ◌≤◌, ◌<◌}
 use mathlib.Core.Path.{◌≡◌, refl, sym, ap, ◌∙◌}
 use mathlib.Core.List.{List}
-use mathlib.Core.Bool.{Bool, true, false}
+use mathlib.Core.Bool.{Bool, true, false, cond}
 use native.Mathlib.Decide.{dec_lt}
 use native.Mathlib.Omega.{arith}
 use lib.ListN.{length, get_or, set, replicate, length-set, get_or-eq_default}
 use lib.Seq.{get_or-set_same, get_or-set_other, ext_get_or}
 use lib.Dec.{leb, ltb}
-use borrow.Author.Tests.{lt-ltb, le-ltb, le-leb, lt-leb}
-use Rattle.job.specs.Reading.{Read, refused, good, ◌>>◌, rule}
+use Rattle.std.specs.List.{zip, position_or_len}
+use Rattle.std.proofs.lemmas.List.Sums.{fails_before_first, passes_at_first}
+use Rattle.std.proofs.lemmas.Slice.Zip.{length-zip, get_or-zip}
+use Rattle.std.proofs.Common.{Some, None, Result, Ok, Err}
+use borrow.Author.Tests.{ltb-true, ltb-false, lt-ltb, le-ltb, le-leb, lt-leb}
+use Rattle.job.specs.Reading.{refused, good, ◌>>◌, rule}
+use Rattle.job.specs.Refusals.{read_of}
+use Rattle.job.specs.declared.refusal.Refusal.TheVariants.{Report}
+use Rattle.job.specs.declared.refusal.Refused.{Refused}
 use Rattle.job.proofs.Tests.{tests}
 use Rattle.job.proofs.Binds.{steps}
 use Rattle.counts.specs.Counts.{Count, report_need, counted}
 use Rattle.counts.specs.Reports.{none_over, room_in}
-use Rattle.counts.specs.Structs.{plus, over_at, added_of, left_of}
-use Rattle.counts.specs.declared.report.Added.{Added}
-use Rattle.counts.specs.declared.report.Added.TheVariants.{Refused, Whole}
+use Rattle.counts.specs.Structs.{plus, over_at, left_of}
 use Rattle.counts.proofs.Adding.{Placed, plus-length, plus_at, plus-counted}
 
 -- ---- looking for a count that would not fit
@@ -39,17 +45,60 @@ module _ (report counts : List ℕ) (long : 48 ≤ length report) (i : ℕ) wher
       rw (more, next, lt-ltb (get_or (plus report counts) i 0) (2 ^ 64) (omega (arith, sum, small))) refl
 
   -- one that does not
-  pub over_found : i < 48 → 2 ^ 64 ≤ get_or report i 0 + get_or counts i 0 → none_over (plus report counts) i (48 - i) ≡ over_at i
+  pub over_found : i < 48 → 2 ^ 64 ≤ get_or report i 0 + get_or counts i 0 → none_over (plus report counts) i (48 - i) ≡ over_at (Some i)
   unfolding none_over rule ◌>>◌ over_at
   over_found on large =
       let more : 48 - i ≡ suc (48 - (i + 1)) = omega (arith, on) in
       let sum = plus_at report counts i (omega (arith, on, long)) in
-      rw (more, le-ltb (get_or (plus report counts) i 0) (2 ^ 64) (omega (arith, sum, large)), lt-ltb i 48 on) refl
+      rw (more, le-ltb (get_or (plus report counts) i 0) (2 ^ 64) (omega (arith, sum, large))) refl
 
   -- none is left
-  pub over_done : 48 ≤ i → none_over (plus report counts) i (48 - i) ≡ over_at 48
+  pub over_done : 48 ≤ i → none_over (plus report counts) i (48 - i) ≡ over_at None
   unfolding none_over over_at
   over_done past = let none : 48 - i ≡ 0 = omega (arith, past) in rw none refl
+
+-- a count that would not fit, beside the number that it is added to
+abbrev pub over_pair : ℕ × ℕ → Bool
+over_pair p = ltb (18446744073709551615 - p.0) p.1
+
+-- the first of them
+module _ (report counts : List ℕ) (long : 48 ≤ length report) (many : length counts ≡ 48) (fits : (i : ℕ) → get_or report i 0 < 2 ^ 64) where
+  -- the numbers of both, in pairs
+  abbrev pub both : List (ℕ × ℕ)
+  both = zip report counts
+
+  abbrev pub at : ℕ
+  at = position_or_len over_pair both
+
+  size : length both ≡ 48
+  size = omega (arith, length-zip report counts, long, many)
+
+  pair_at : (k : ℕ) → k < 48 → get_or both k (0, 0) ≡ (get_or report k 0, get_or counts k 0)
+  pair_at k on = get_or-zip report counts k (0, 0) (omega (arith, on, long)) (omega (arith, on, many))
+
+  -- those before it fit
+  fit_before : (k : ℕ) → k < 48 → k < at → get_or report k 0 + get_or counts k 0 < 2 ^ 64
+  fit_before k on before =
+      let told = rw (pair_at k on) at (fails_before_first over_pair both k (0, 0) before) in
+      omega (arith, ltb-false _ _ told, fits k)
+
+  -- so they are passed
+  passed : (k : ℕ) → k ≤ 48 → k ≤ at → none_over (plus report counts) 0 48 ≡ none_over (plus report counts) k (48 - k)
+  passed zero on before = refl
+  passed (suc k) on before =
+      let next : k + 1 ≡ suc k = omega arith in
+      passed k (omega (arith, on)) (omega (arith, before))
+      ∙ rw (← next) (over_turn report counts long k (omega (arith, on)) (fit_before k (omega (arith, on)) (omega (arith, before))))
+
+  pub first_told : none_over (plus report counts) 0 48 ≡ over_at (cond (ltb at (length both)) (Some at) None)
+  first_told = rw size (by (dec_lt at 48))
+    where
+      by : Dec (at < 48) → none_over (plus report counts) 0 48 ≡ over_at (cond (ltb at 48) (Some at) None)
+      by (yes on) =
+          let told = rw (pair_at at on) at (passes_at_first over_pair both (0, 0) (omega (arith, on, size))) in
+          rw (lt-ltb at 48 on) (passed at (omega (arith, on)) (omega arith) ∙ over_found report counts long at on (omega (arith, ltb-true _ _ told)))
+      by (no past) =
+          rw (le-ltb at 48 (omega (arith, past))) (passed 48 (omega arith) (omega (arith, past)) ∙ over_done report counts long 48 (omega arith))
 
 -- n numbers from one on fit, where none is over
 none_over_lem : (report : List ℕ) (n at : ℕ) → none_over report at n ≡ good tt → (i : ℕ) → at ≤ i → i < at + n → get_or report i 0 < 2 ^ 64
@@ -62,11 +111,10 @@ none_over_lem report (suc n) at h i low high = let (this, rest) = simp (steps, t
     by (no here) this rest = let same : at ≡ i = omega (arith, low, here) in rw same at this
 
 -- where none is found, every sum fits
-pub none_fits : (report counts : List ℕ) (over : ℕ) → 48 ≤ length report → none_over (plus report counts) 0 48 ≡ over_at over → 48 ≤ over
+pub none_fits : (report counts : List ℕ) → 48 ≤ length report → none_over (plus report counts) 0 48 ≡ over_at None
     → (i : ℕ) → i < 48 → get_or report i 0 + get_or counts i 0 < 2 ^ 64
 unfolding over_at
-none_fits report counts over long told past i on =
-    let none : none_over (plus report counts) 0 48 ≡ good tt = told ∙ rw (le-ltb over 48 past) refl in
+none_fits report counts long none i on =
     omega (arith, plus_at report counts i (omega (arith, on, long)), none_over_lem (plus report counts) 48 0 none i (omega arith) on)
 
 -- ---- adding them
@@ -145,25 +193,28 @@ room_long report more e = let (long, none) = simp (steps, tests) at e in long
 
 module _ (report more : List ℕ) where
   -- what is answered, and what is left
-  abbrev pub Adds : Added → List ℕ → Type 0
-  Adds r after = (r ≡ added_of (room_in report more)) × (after ≡ left_of report more (room_in report more))
+  abbrev pub Adds : Result Unit Refused → List ℕ → Type 0
+  Adds r after = (read_of r ≡ room_in report more) × (after ≡ left_of report more (room_in report more))
 
-  -- by the answer about room
-  adds : (x : Read Unit) → room_in report more ≡ x → Adds (added_of x) (left_of report more x)
-  adds x e = rw e (refl, refl)
+  -- a refusal at a layer
+  no_room_at : (layer : ℕ) {r : Refused} → r ≡ record { refusal = Report; place = layer } → room_in report more ≡ refused 19 layer → Adds (Err r) report
+  unfolding left_of
+  no_room_at layer is e = rw (is, e) (refl, refl)
 
   -- the report is short
-  pub room_short : length report < 48 → Adds (Refused 19 8) report
-  unfolding room_in rule ◌>>◌ added_of left_of
-  room_short h = adds (refused 19 8) (rw (lt-leb 48 (length report) h) refl)
+  pub room_short : length report < 48 → {r : Refused} → r ≡ record { refusal = Report; place = 8 } → Adds (Err r) report
+  unfolding room_in rule ◌>>◌
+  room_short h is = no_room_at 8 is (rw (lt-leb 48 (length report) h) refl)
 
-  module _ (long : 48 ≤ length report) {over : ℕ} (told : none_over more 0 48 ≡ over_at over) where
+  module _ (long : 48 ≤ length report) where
     -- a count is too large
-    pub room_over : over < 48 → Adds (Refused 19 (over / 6)) report
-    unfolding room_in rule ◌>>◌ added_of left_of over_at
-    room_over h = adds (refused 19 (over / 6)) (rw (le-leb 48 (length report) long, told, lt-ltb over 48 h) refl)
+    pub room_over : (over : ℕ) → none_over more 0 48 ≡ over_at (Some over) → {r : Refused} → r ≡ record { refusal = Report; place = over / 6 } → Adds (Err r) report
+    unfolding room_in rule ◌>>◌ over_at
+    room_over over told is = no_room_at (over / 6) is (rw (le-leb 48 (length report) long, told) refl)
 
     -- there is room
-    pub room_whole : 48 ≤ over → {after : List ℕ} → after ≡ more → Adds Whole after
-    unfolding room_in rule ◌>>◌ added_of left_of over_at
-    room_whole h is = rw is (adds (good tt) (rw (le-leb 48 (length report) long, told, le-ltb over 48 h) refl))
+    pub room_whole : none_over more 0 48 ≡ over_at None → {after : List ℕ} → after ≡ more → Adds (Ok tt) after
+    unfolding room_in rule ◌>>◌ left_of over_at
+    room_whole told is =
+        let e : room_in report more ≡ good tt = rw (le-leb 48 (length report) long, told) refl in
+        rw (e, is) (refl, refl)

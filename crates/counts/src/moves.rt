@@ -7,43 +7,51 @@ ghost use Rattle.rules.specs.Seen.{view_by};
 ghost use Rattle.rules.specs.Segments.{Place};
 ghost use Rattle.rules.specs.Structs.{made_by};
 ghost use Rattle.counts.specs.Counts.{count, counted, one_if, way_count, move_counts};
-ghost use Rattle.counts.specs.Structs.{CountsFit};
+ghost use Rattle.counts.specs.Structs.{CountsFit, kind_of};
 
 use job::grid::Grid;
 use rules::seen::{OUTSIDE, TAKEN, has};
 use rules::step::Made;
 use rules::track::vertex_by;
+use std::cmp::Ordering;
 
-// How many kinds of counts a layer has, and their numbers.
+// What is counted of a layer; each kind has the number of its place among the layer's counts.
+#[derive(Clone, Copy, PartialEq, Eq, Debug)]
+pub enum Kind {
+    Steps = 0,
+    Vias = 1,
+    Added = 2,
+    Penalised = 3,
+    Guide = 4,
+    Short = 5,
+}
+
+impl Kind {
+    fn place(self) -> usize
+        ensures { (result ≡ kind_of self) × (result < 6) }
+    {
+        self as usize
+    }
+}
+
+// How many kinds of counts a layer has.
 pub const KINDS: usize = 6;
-
-pub const STEPS: usize = 0;
-
-pub const VIAS: usize = 1;
-
-pub const ADDED: usize = 2;
-
-pub const PENALISED: usize = 3;
-
-pub const GUIDE: usize = 4;
-
-pub const SHORT: usize = 5;
 
 // How many counts there are, of eight layers.
 pub const COUNTS: usize = 48;
 
-fn add_count(counts: &mut [usize; 48], layer: usize, kind: usize, many: usize)
-    requires { (layer < 8) × (kind < 6) × (many < 2 ^ 20) × (CountsFit (2 ^ 63) counts.old) }
-    ensures { counts.new ≡ counted (count layer kind many ∷ []) counts.old }
+fn add_count(counts: &mut [usize; 48], layer: usize, kind: Kind, many: usize)
+    requires { (layer < 8) × (many < 2 ^ 20) × (CountsFit (2 ^ 63) counts.old) }
+    ensures { counts.new ≡ counted (count layer (kind_of kind) many ∷ []) counts.old }
 {
-    let at = KINDS * layer + kind;
-    counts[at] = counts[at] + many;
+    let place = kind.place();
+    counts[KINDS * layer + place] += many;
 }
 
 // One more where a test holds.
-fn count_if(counts: &mut [usize; 48], layer: usize, kind: usize, test: bool)
-    requires { (layer < 8) × (kind < 6) × (CountsFit (2 ^ 63) counts.old) }
-    ensures { counts.new ≡ counted (count layer kind (one_if test) ∷ []) counts.old }
+fn count_if(counts: &mut [usize; 48], layer: usize, kind: Kind, test: bool)
+    requires { (layer < 8) × (CountsFit (2 ^ 63) counts.old) }
+    ensures { counts.new ≡ counted (count layer (kind_of kind) (one_if test) ∷ []) counts.old }
 {
     if test {
         add_count(counts, layer, kind, 1);
@@ -55,12 +63,10 @@ fn count_way(counts: &mut [usize; 48], left: usize, entered: usize)
     requires { (left < 8) × (entered < 8) × (CountsFit (2 ^ 63) counts.old) }
     ensures { counts.new ≡ counted (way_count left entered ∷ []) counts.old }
 {
-    if left < entered {
-        add_count(counts, left, VIAS, 1);
-    } else if entered < left {
-        add_count(counts, entered, VIAS, 1);
-    } else {
-        add_count(counts, entered, STEPS, 1);
+    match left.cmp(&entered) {
+        Ordering::Less => add_count(counts, left, Kind::Vias, 1),
+        Ordering::Greater => add_count(counts, entered, Kind::Vias, 1),
+        Ordering::Equal => add_count(counts, entered, Kind::Steps, 1),
     }
 }
 
@@ -83,10 +89,11 @@ pub fn count_move(
     let vertex = vertex_by(grid, into);
     let entered = vertex.layer;
     count_way(counts, left, entered);
-    add_count(counts, left, ADDED, made.added);
-    add_count(counts, left, PENALISED, made.penalties);
+    add_count(counts, left, Kind::Added, made.added);
+    add_count(counts, left, Kind::Penalised, made.penalties);
+    let outside = has(seen, into, OUTSIDE);
     let taken = has(seen, into, TAKEN);
-    count_if(counts, entered, GUIDE, has(seen, into, OUTSIDE) & !taken);
-    count_if(counts, entered, SHORT, taken);
+    count_if(counts, entered, Kind::Guide, outside & !taken);
+    count_if(counts, entered, Kind::Short, taken);
     entered
 }

@@ -1,46 +1,48 @@
 -- What callers lean on.
---     heaped_none                   where no entry was touched there is an empty heap
+--     heaped_empty, heaped_none     where no item is in it, or no entry was touched, there is an empty heap
 --     heaped_as, heaped_store       what is past the heap does not matter, so that the caller may store there
 --     heaped_least, removed_key     the item at the front has the least key, and the one that is removed has
 --                                   that key
 --     lowered_left, removed_left    no item gets into the heap but the one that is put in
 --     room_both, room_beside        different items that are not in the heap have room beside it, and so has
 --                                   one more
-use Prim.Native.Nat.{ℕ, ◌+◌, ◌-◌, ◌≤◌, ◌<◌}
-use mathlib.Core.Path.{◌≡◌, sym, ap, ◌∙◌}
-use mathlib.Core.Bool.{cond}
+use Prim.Native.Nat.{ℕ, ◌+◌, ◌≤◌, ◌<◌}
+use mathlib.Core.Path.{◌≡◌, refl, sym, ap, ◌∙◌}
 use mathlib.Core.List.{List}
 use native.Mathlib.Omega.{arith}
 use native.Mathlib.Decide.{dec_lt}
 use lib.ListN.{length, get_or, set, length-set}
-use lib.Dec.{ltb}
 use lib.Seq.{get_or-set_other}
-use borrow.Author.Tests.{lt-ltb, le-ltb}
-use Rattle.heap.specs.Heaps.{key_of, slot_of, Open, In, item_at, key_at, above, Seated, Heaped, Lowered, Removed}
+use Rattle.heap.specs.Heaps.{greatest_key, key_of, slot_of, Open, In, item_at, key_at, above, Seated, Heaped, Lowered, Removed}
 use Rattle.heap.proofs.Words.{open_or_not}
 use Rattle.heap.proofs.Orders.{least_first}
 use Rattle.heap.proofs.Swaps.{seat_once, seat_in}
-use Rattle.heap.proofs.Pigeons.{Within, Apart, pigeons, pigeons_miss}
+use Rattle.heap.proofs.Pigeons.{Within, Apart, pigeons, joined, joined_first, joined_rest, joined_within, joined_apart}
 
--- where no entry was touched there is an empty heap
-pub heaped_none : {n : ℕ} {work : List ℕ} → n + n ≤ length work → n ≤ 524288 → ((c : ℕ) → c < n → key_of (get_or work c 0) ≡ 0) → Heaped n 0 work
-heaped_none {n} {work} room few bare =
+-- where no item is in it there is an empty heap
+pub heaped_empty : {n size : ℕ} {work : List ℕ} → size ≡ 0 → n + n ≤ length work → n ≤ 524288 → ((c : ℕ) → c < n → key_of (get_or work c 0) ≤ greatest_key)
+    → ((c : ℕ) → c < n → In work n c → ⊥) → Heaped n size work
+heaped_empty {n} {size} {work} none room few small out =
     record {
       seated =
           record {
             room = room;
             few = few;
             fits = omega arith;
-            small = λ c h. omega (arith, bare c h);
+            small = small;
             items = λ i h. absurd (omega arith);
             touched = λ i h. absurd (omega arith);
             slots = λ i h. absurd (omega arith);
             agree = λ i h. absurd (omega arith);
-            within = λ c h o. absurd (omega (arith, bare c h, o.touched));
-            seats = λ c h o. absurd (omega (arith, bare c h, o.touched));
+            within = λ c h o. absurd (out c h o);
+            seats = λ c h o. absurd (out c h o);
           };
       order = λ i p h. absurd (omega arith);
     }
+
+-- so where no entry was touched
+pub heaped_none : {n : ℕ} {work : List ℕ} → n + n ≤ length work → n ≤ 524288 → ((c : ℕ) → c < n → key_of (get_or work c 0) ≡ 0) → Heaped n 0 work
+heaped_none room few bare = heaped_empty refl room few (λ c h. omega (arith, bare c h)) (λ c h o. omega (arith, bare c h, o.touched))
 
 -- ---- past the heap
 
@@ -115,57 +117,26 @@ removed_left t c h o = left_by_lem (t.still c h) o
 
 -- ---- room beside the heap
 
--- the heap's items, and after them others
-after : (work : List ℕ) → (n size : ℕ) → (ℕ → ℕ) → ℕ → ℕ
-after work n size f i = cond (ltb i size) (item_at work n i) (f (i - size))
-
-after_heap : (work : List ℕ) (n : ℕ) {size : ℕ} (f : ℕ → ℕ) {i : ℕ} → i < size → after work n size f i ≡ item_at work n i
-unfolding after
-after_heap work n {size} f {i} h = rw (lt-ltb i size h)
-
-after_rest : (work : List ℕ) (n : ℕ) {size : ℕ} (f : ℕ → ℕ) {i : ℕ} → size ≤ i → after work n size f i ≡ f (i - size)
-unfolding after
-after_rest work n {size} f {i} h = rw (le-ltb i size h)
-
 module _ {n size k : ℕ} {work : List ℕ} (f : ℕ → ℕ) (s : Seated n size work) (within : Within n k f) (apart : Apart k f)
     (out : (j : ℕ) → j < k → In work n (f j) → ⊥) where
-  -- all are known
-  after-within : Within n (size + k) (after work n size f)
-  after-within i h = by (dec_lt i size)
-    where
-      by : Dec (i < size) → after work n size f i < n
-      by (yes l) = rw (after_heap work n f l) (s.items i l)
-      by (no l) = let high : size ≤ i = omega arith in rw (after_rest work n f high) (within (i - size) (omega arith))
-
-  -- one in the heap is none of the others
-  after_not : (i j : ℕ) → i < size → j < k → item_at work n i ≡ f j → ⊥
-  after_not i j h l e = out j l (rw e at (seat_in s h))
-
-  -- all are different
-  after_apart : Apart (size + k) (after work n size f)
-  after_apart i j h l e = by (dec_lt i size) (dec_lt j size)
-    where
-      by : Dec (i < size) → Dec (j < size) → i ≡ j
-      by (yes a) (yes b) = seat_once s a b (sym (after_heap work n f a) ∙ e ∙ after_heap work n f b)
-      by (yes a) (no b) =
-          absurd (after_not i (j - size) a (omega arith) (sym (after_heap work n f a) ∙ e ∙ after_rest work n f (omega arith)))
-      by (no a) (yes b) =
-          absurd (after_not j (i - size) b (omega arith) (sym (after_heap work n f b) ∙ sym e ∙ after_rest work n f (omega arith)))
-      by (no a) (no b) =
-          let same = apart (i - size) (j - size) (omega arith) (omega arith) (sym (after_rest work n f (omega arith)) ∙ e ∙ after_rest work n f (omega arith)) in
-          omega arith
-
   -- different items that are not in the heap have room beside it
   pub room_both : size + k ≤ n
-  room_both = pigeons n (size + k) (after work n size f) after-within after_apart
+  room_both =
+      pigeons n (size + k) (joined size (item_at work n) f)
+      (joined_within s.items within)
+      (joined_apart (λ i j. seat_once s) apart (λ i j h l e. out j l (rw e at (seat_in s h))))
 
-  -- and so has one more
-  pub room_beside : (item : ℕ) → item < n → (In work n item → ⊥) → ((j : ℕ) → j < k → f j ≡ item → ⊥) → size + k < n
-  room_beside item known new miss = pigeons_miss n (size + k) (after work n size f) item after-within after_apart known hit
-    where
-      hit : (i : ℕ) → i < size + k → after work n size f i ≡ item → ⊥
-      hit i h e = by (dec_lt i size)
-        where
-          by : Dec (i < size) → ⊥
-          by (yes l) = new (rw (sym (after_heap work n f l) ∙ e) at (seat_in s l))
-          by (no l) = miss (i - size) (omega arith) (sym (after_rest work n f (omega arith)) ∙ e)
+-- and so has one more
+pub room_beside : {n size k : ℕ} {work : List ℕ} (f : ℕ → ℕ) → Seated n size work → Within n k f → Apart k f → ((j : ℕ) → j < k → In work n (f j) → ⊥)
+    → (item : ℕ) → item < n → (In work n item → ⊥) → ((j : ℕ) → j < k → f j ≡ item → ⊥) → size + k < n
+room_beside {n} {size} {k} {work} f s within apart out item known new miss =
+    let both : size + (k + 1) ≤ n
+    = room_both (joined k f more) s (joined_within within (λ i h. known)) (joined_apart apart (λ i j h l e. omega arith) (λ i j h l. miss i h)) (λ j h. by j h (dec_lt j k)) in
+    omega (arith, both)
+  where
+    more : ℕ → ℕ
+    more i = item
+
+    by : (j : ℕ) → j < k + 1 → Dec (j < k) → In work n (joined k f more j) → ⊥
+    by j h (yes l) = rw (joined_first f more l) (out j l)
+    by j h (no l) = let high : k ≤ j = omega arith in rw (joined_rest f more high) new

@@ -2,10 +2,10 @@
 --     Words        its words, and stores to them
 --     Orders       its order, told by the key at each seat
 --     Swaps        two seats swap their items
---     Tests        what the code's tests tell
+--     Rows         of seats in a row the one with the least key
 --     Sifting      the loops
 --     Landing      an item put at a seat
---     Pigeons      a pigeonhole
+--     Pigeons      a pigeonhole, and two rows of numbers joined
 --     Lowering     an item put in, or its distance lowered
 --     Leaving      the item at the front leaves
 --     Removing     the item at the front removed, and the last put in its seat
@@ -13,7 +13,7 @@
 pub mod Words
 pub mod Orders
 pub mod Swaps
-pub mod Tests
+pub mod Rows
 pub mod Sifting
 pub mod Landing
 pub mod Pigeons

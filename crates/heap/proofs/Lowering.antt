@@ -2,7 +2,6 @@
 --     room_for                         there is room for an item that is not in the heap
 --     new_lifted, new_lowered          an item that was never touched
 --     better_lifted, better_lowered    one in the heap with a greater key
---     same_lowered                     any other
 use Prim.Native.Nat.{ℕ, ◌+◌, ◌≤◌, ◌<◌}
 use mathlib.Core.Path.{◌≡◌, refl, sym, ap, ◌∙◌}
 use mathlib.Core.List.{List}
@@ -14,12 +13,12 @@ use Rattle.heap.specs.Sifts.{placed, Sifted, Rising, Lifted}
 use Rattle.heap.proofs.Words.{placed_long, placed_other}
 use Rattle.heap.proofs.Swaps.{seat_once, seat_in}
 use Rattle.heap.proofs.Landing.{Around, around_seated, around_key, around_own, around_item_key, around_in, around_word_other}
-use Rattle.heap.proofs.Pigeons.{pigeons_miss}
+use Rattle.heap.proofs.Laws.{room_both}
 
 -- there is room for an item that is not in the heap
 pub room_for : {n size : ℕ} {w : List ℕ} {item : ℕ} → Seated n size w → item < n → (In w n item → ⊥) → size < n
 room_for {n} {size} {w} {item} s known out =
-    pigeons_miss n size (λ i. item_at w n i) item s.items (λ i j h l e. seat_once s h l e) known (λ i h e. out (rw e at (seat_in s h)))
+    let both : size + 1 ≤ n = room_both (λ i. item) s (λ i h. known) (λ i j h l e. omega arith) (λ j h. out) in omega (arith, both)
 
 -- ---- what an item that is put at a seat changes
 
@@ -157,20 +156,3 @@ module _ {n size item : ℕ} (distance : ℕ) {w : List ℕ} (h : Heaped n size 
 
   pub better_lowered : {work : List ℕ} → Sifted n size (placed w n (slot_of (get_or w item 0)) item (distance + 1)) work → Lowered n size item distance w work size
   better_lowered s = lowered_by distance better_around s (λ e. absurd (omega arith)) (λ p. refl) (λ p x. omega (arith, x o))
-
--- ---- any other
-
-pub same_lowered : {n size item distance : ℕ} {w : List ℕ} → Heaped n size w → (key_of (get_or w item 0) ≡ 0 → ⊥)
-    → (In w n item → key_of (get_or w item 0) ≤ distance + 1) → Lowered n size item distance w w size
-same_lowered h some no_less =
-    record {
-      heaped = h;
-      long = refl;
-      new = λ e. absurd (some e);
-      better = λ o l. absurd (omega (arith, no_less o));
-      same = λ p x. (refl, refl);
-      keys = λ c l e. refl;
-      stays = λ c l e o. o;
-      still = λ c l e x. refl;
-      beyond = λ j l. refl;
-    }

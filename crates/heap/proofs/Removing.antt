@@ -2,20 +2,20 @@
 --     last_of, filled    the last item, and the slice with it in the seat of the item that has left
 --     one-..             there was one item
 --     many-..            there were more: the last goes to the front and may sink from there
---     settle_asked, last_asked, drop_asked, drop_removed, one_done, clear_asked
+--     drop_asked, drop_removed, one_done
 --         what the code asks and does, in its words
-use Prim.Native.Nat.{ℕ, ◌+◌, ◌-◌, ◌≤◌, ◌<◌}
-use mathlib.Core.Path.{◌≡◌, sym, ap, ◌∙◌}
+use Prim.Native.Nat.{ℕ, ◌-◌, ◌≤◌, ◌<◌}
+use mathlib.Core.Path.{◌≡◌, refl, sym, ap, ◌∙◌}
 use mathlib.Core.List.{List}
 use native.Mathlib.Omega.{arith}
 use native.Mathlib.Decide.{ℕ_discrete}
-use lib.ListN.{length, get_or, length-set}
-use Rattle.heap.specs.Heaps.{most_items, greatest_key, key_of, slot_of, In, item_at, key_at, above, Heaped, Removed}
+use lib.ListN.{get_or}
+use Rattle.heap.specs.Heaps.{key_of, slot_of, In, item_at, key_at, above, Heaped, Removed}
 use Rattle.heap.specs.Sifts.{placed, Sifted, Dropped}
 use Rattle.heap.proofs.Words.{placed_long, placed_other}
 use Rattle.heap.proofs.Swaps.{seat_once, seat_in}
 use Rattle.heap.proofs.Landing.{Around, around_seated, around_key, around_item_key, around_in, around_word_other}
-use Rattle.heap.proofs.Sifting.{moved_none}
+use Rattle.heap.proofs.Laws.{heaped_empty}
 use Rattle.heap.proofs.Leaving.{first_of, settled, leaving, cleared, front, Out, removed_by}
 
 -- the last item
@@ -40,23 +40,9 @@ module _ {n size : ℕ} {w : List ℕ} (h : Heaped n size w) (some : 0 < size) (
   one_sifted =
       record {
         heaped =
-            record {
-              seated =
-                  record {
-                    room = omega (arith, h.seated.room, (front h some).long);
-                    few = h.seated.few;
-                    fits = omega (arith, h.seated.fits);
-                    small = λ c l. rw ((front h some).keys c) (h.seated.small c l);
-                    items = λ i l. absurd (omega arith);
-                    touched = λ i l. absurd (omega arith);
-                    slots = λ i l. absurd (omega arith);
-                    agree = λ i l. absurd (omega arith);
-                    within = λ c l o. absurd (one_none c l o);
-                    seats = λ c l o. absurd (one_none c l o);
-                  };
-              order = λ i p l. absurd (omega arith);
-            };
-        moved = moved_none n (size - 1) (leaving n w);
+            heaped_empty (omega arith) (omega (arith, h.seated.room, (front h some).long)) h.seated.few (λ c l. rw ((front h some).keys c) (h.seated.small c l)) one_none;
+        moved =
+            record { long = refl; keys = λ c l. refl; stays = λ c l o. o; still = λ c l x. refl; beyond = λ j l. refl };
       }
 
   one_out : Out n size (first_of n w) w (leaving n w)
@@ -206,27 +192,3 @@ module _ {n size item last key : ℕ} {w v : List ℕ} (h : Heaped n size w) (mo
 pub one_done : {n size item : ℕ} {w v : List ℕ} → Heaped n size w → 0 < size → size ≤ 1 → item ≡ first_of n w → v ≡ settled w item
     → Removed n size item w (cleared n size v)
 one_done {n} {size} {item} {w} {v} h some one first-is v-is = rw (v-is, first-is) (one_removed h some one)
-
--- what the leaving of the first item asks
-pub settle_asked : {n size item : ℕ} {w : List ℕ} → Heaped n size w → 0 < size → item ≡ first_of n w
-    → (item < length w) × (key_of (get_or w item 0) ≤ greatest_key)
-settle_asked {n} {size} {item} {w} h some is =
-    rw is (omega (arith, (front h some).known, h.seated.room), h.seated.small (first_of n w) (front h some).known)
-
--- what reading the last item's key asks: its seat's word is as it was, and has it
-pub last_asked : {n size item : ℕ} {w v : List ℕ} → Heaped n size w → 1 < size → item ≡ first_of n w → v ≡ settled w item
-    → (n ≤ most_items) × (size - 1 < n) × (n + (size - 1) < length v) × (key_of (get_or v (n + (size - 1)) 0) ≡ key_at v n (size - 1))
-last_asked {n} {size} {item} {w} {v} h more first-is v-is =
-    let left = front h (omega arith) in
-    let s = h.seated in
-    rw (v-is, first-is) (
-      s.few,
-      omega (arith, s.fits),
-      omega (arith, left.long, s.room, s.fits),
-      ap key_of (left.seats (size - 1)) ∙ s.agree (size - 1) (omega arith) ∙ sym (left.seat_keys (size - 1)),
-    )
-
--- what clearing the last seat asks
-pub clear_asked : {n size item : ℕ} {w : List ℕ} (work : List ℕ) → Heaped n size w → 0 < size → Removed n size item w (cleared n size work) → n + (size - 1) < length work
-clear_asked {n} {size} {item} {w} work h some t =
-    omega (arith, t.long, length-set work (n + (size - 1)) 0, h.seated.room, h.seated.fits)

@@ -5,13 +5,13 @@
 --     Climbing, climbing-..              the loop of sift_up
 --     Falling, falling-..                the loop of sift_down
 use Prim.Native.Nat.{ℕ, ◌+◌, ◌≤◌, ◌<◌}
-use mathlib.Core.Path.{◌≡◌, refl, sym, ap, ◌∙◌}
-use mathlib.Core.Bool.{Bool, true, false}
+use mathlib.Core.Path.{◌≡◌, sym, ap, ◌∙◌}
+use Rattle.std.proofs.Common.{Some, None}
 use mathlib.Core.List.{List}
 use native.Mathlib.Omega.{arith}
 use lib.ListN.{length, get_or}
 use Rattle.heap.specs.Heaps.{most_items, greatest_key, key_of, slot_of, item_at, key_at, above, Seated}
-use Rattle.heap.specs.Sifts.{placed, Moved, Sifted, Rising, Sinking, Lifted, Dropped, Held, Climbs, Least, Sinks}
+use Rattle.heap.specs.Sifts.{placed, Moved, Sifted, Rising, Sinking, Held, Climbs, Sinks}
 use Rattle.heap.proofs.Words.{key_word, placed_long, placed_item, placed_agree, placed_word, placed_other}
 use Rattle.heap.proofs.Orders.{rising_on, rising_done, sinking_on, sinking_done}
 use Rattle.heap.proofs.Swaps.{seat_once, Swapped, swapped_keys, swapped_seated, swapped_moved}
@@ -113,11 +113,6 @@ module _ {n size : ℕ} (work : List ℕ) (at item key : ℕ) (s : Seated n size
               ∙ sym (placed_other work n at item key c not_own (omega arith));
         }
 
--- nothing has changed
-pub moved_none : (n size : ℕ) (work : List ℕ) → Moved n size work work
-moved_none n size work =
-    record { long = refl; keys = λ c h. refl; stays = λ c h o. o; still = λ c h x. refl; beyond = λ j h. refl }
-
 -- ---- up
 
 -- the item rises
@@ -126,11 +121,6 @@ pub record Climbing (n size item key : ℕ) (found work : List ℕ) (at : ℕ) :
   pub seated : Seated n size (placed work n at item key)
   pub rising : Rising size at (key_at (placed work n at item key) n)
   pub moved : Moved n size found (placed work n at item key)
-
--- at first
-pub climbing_begun : {n size at item key : ℕ} {work : List ℕ} → Lifted n size at item key work → Climbing n size item key (placed work n at item key) work at
-climbing_begun {n} {size} {at} {item} {key} {work} l =
-    record { known = l.known; seated = l.seated; rising = l.rising; moved = moved_none n size (placed work n at item key) }
 
 module _ {n size item key : ℕ} {found work : List ℕ} {at : ℕ} (c : Climbing n size item key found work at) where
   -- what the test asks
@@ -142,20 +132,22 @@ module _ {n size item key : ℕ} {found work : List ℕ} {at : ℕ} (c : Climbin
   climbing_put = hole_put work at item key c.seated c.rising.known c.known
 
   -- what the move of the item above asks
-  pub climbing_asked : {r : Bool} → Climbs n at key work r → r ≡ true → ShiftAsked n (above at) at work
-  climbing_asked t told =
-      hole_shift work at item key c.seated c.rising.known c.known (above at) (omega (arith, c.rising.known)) (omega (arith, t.yes_low told))
+  pub climbing_asked : {up : ℕ} → Climbs n at key work (Some up) → ShiftAsked n up at work
+  unfolding Climbs
+  climbing_asked {up} t =
+      hole_shift work at item key c.seated c.rising.known c.known up (omega (arith, t, c.rising.known)) (omega (arith, t))
 
   -- a seat up
-  pub climbing_on : {left : List ℕ} {r : Bool} → Climbs n at key work r → r ≡ true → left ≡ placed work n at (item_at work n (above at)) (key_at work n (above at))
-      → Climbing n size item key found left (above at)
-  climbing_on {left} t told e =
-      rw e
+  pub climbing_on : {left : List ℕ} {up : ℕ} → Climbs n at key work (Some up) → left ≡ placed work n at (item_at work n up) (key_at work n up)
+      → Climbing n size item key found left up
+  unfolding Climbs
+  climbing_on {left} {up} t e =
+      rw (e, t.1)
       (record {
         known = c.known;
-        seated = swapped_seated s on up swapped;
-        rising = rising_on c.rising low (omega (arith, t.yes_key told, own_key work at item key s on c.known, hole_key work at item key s on c.known (above at) up away)) (swapped_keys s on up swapped);
-        moved = swapped_moved s on up swapped c.moved;
+        seated = swapped_seated s on h swapped;
+        rising = rising_on c.rising low (omega (arith, less, own_key work at item key s on c.known, hole_key work at item key s on c.known (above at) h away)) (swapped_keys s on h swapped);
+        moved = swapped_moved s on h swapped c.moved;
       })
     where
       s : Seated n size (placed work n at item key)
@@ -165,26 +157,30 @@ module _ {n size item key : ℕ} {found work : List ℕ} {at : ℕ} (c : Climbin
       on = c.rising.known
 
       low : 0 < at
-      low = t.yes_low told
+      low = t.0
 
-      up : above at < size
-      up = omega (arith, on)
+      less : key < key_at work n (above at)
+      less = rw t.1 at t.2
+
+      h : above at < size
+      h = omega (arith, on)
 
       away : above at ≡ at → ⊥
       away = omega (arith, low)
 
       swapped : Swapped n at (above at) (placed work n at item key) (placed (placed work n at (item_at work n (above at)) (key_at work n (above at))) n (above at) item key)
-      swapped = hole_swapped work at item key s on c.known (above at) up away
+      swapped = hole_swapped work at item key s on c.known (above at) h away
 
   -- in its seat
-  pub climbing_done : {left : List ℕ} {r : Bool} → Climbs n at key work r → r ≡ false → left ≡ placed work n at item key → Sifted n size found left
-  climbing_done {left} t told e =
+  pub climbing_done : {left : List ℕ} → Climbs n at key work None → left ≡ placed work n at item key → Sifted n size found left
+  unfolding Climbs
+  climbing_done {left} t e =
       rw e
       (record {
         heaped =
             record {
               seated = s;
-              order = rising_done c.rising (λ low. omega (arith, t.no_key told low, own_key work at item key s on c.known, hole_key work at item key s on c.known (above at) (omega (arith, on)) (omega arith)));
+              order = rising_done c.rising (λ low. omega (arith, t low, own_key work at item key s on c.known, hole_key work at item key s on c.known (above at) (omega (arith, on)) (omega arith)));
             };
         moved = c.moved;
       })
@@ -204,11 +200,6 @@ pub record Falling (n size item key : ℕ) (found work : List ℕ) (at : ℕ) : 
   pub sinking : Sinking size at (key_at (placed work n at item key) n)
   pub moved : Moved n size found (placed work n at item key)
 
--- at first
-pub falling_begun : {n size at item key : ℕ} {work : List ℕ} → Dropped n size at item key work → Falling n size item key (placed work n at item key) work at
-falling_begun {n} {size} {at} {item} {key} {work} l =
-    record { known = l.known; seated = l.seated; sinking = l.sinking; moved = moved_none n size (placed work n at item key) }
-
 module _ {n size item key : ℕ} {found work : List ℕ} {at : ℕ} (c : Falling n size item key found work at) where
   -- what the test asks
   pub falling_held : Held n size at work
@@ -219,18 +210,20 @@ module _ {n size item key : ℕ} {found work : List ℕ} {at : ℕ} (c : Falling
   falling_put = hole_put work at item key c.seated c.sinking.known c.known
 
   -- what the move of the item below asks
-  pub falling_asked : {child : ℕ} → Least n size at work child → ShiftAsked n child at work
-  falling_asked {child} l = hole_shift work at item key c.seated c.sinking.known c.known child l.known (omega (arith, l.low))
+  pub falling_asked : {child : ℕ} → Sinks n size at key work (Some child) → ShiftAsked n child at work
+  unfolding Sinks
+  falling_asked {child} t = hole_shift work at item key c.seated c.sinking.known c.known child t.0.known (omega (arith, t.0.low))
 
   -- a seat down
-  pub falling_on : {left : List ℕ} {child : ℕ} {r : Bool} → Sinks n size at key work r → r ≡ true → Least n size at work child
-      → left ≡ placed work n at (item_at work n child) (key_at work n child) → Falling n size item key found left child
-  falling_on {left} {child} t told l e =
+  pub falling_on : {left : List ℕ} {child : ℕ} → Sinks n size at key work (Some child) → left ≡ placed work n at (item_at work n child) (key_at work n child)
+      → Falling n size item key found left child
+  unfolding Sinks
+  falling_on {left} {child} t e =
       rw e
       (record {
         known = c.known;
         seated = swapped_seated s on h swapped;
-        sinking = sinking_on c.sinking low h of least (omega (arith, t.yes_key told child l, own_key work at item key s on c.known, beside child h away)) (swapped_keys s on h swapped);
+        sinking = sinking_on c.sinking low h of least (omega (arith, t.1, own_key work at item key s on c.known, beside child h away)) (swapped_keys s on h swapped);
         moved = swapped_moved s on h swapped c.moved;
       })
     where
@@ -241,13 +234,13 @@ module _ {n size item key : ℕ} {found work : List ℕ} {at : ℕ} (c : Falling
       on = c.sinking.known
 
       h : child < size
-      h = l.known
+      h = t.0.known
 
       low : at < child
-      low = l.low
+      low = t.0.low
 
       of : above child ≡ at
-      of = l.child_of
+      of = t.0.child_of
 
       away : child ≡ at → ⊥
       away = omega (arith, low)
@@ -256,20 +249,21 @@ module _ {n size item key : ℕ} {found work : List ℕ} {at : ℕ} (c : Falling
       beside i l x = hole_key work at item key s on c.known i l x
 
       least : (i : ℕ) → 0 < i → i < size → above i ≡ at → key_at (placed work n at item key) n child ≤ key_at (placed work n at item key) n i
-      least i p y x = omega (arith, l.least i p y x, beside child h away, beside i y (omega arith))
+      least i p y x = omega (arith, t.0.least i p y x, beside child h away, beside i y (omega arith))
 
       swapped : Swapped n at child (placed work n at item key) (placed (placed work n at (item_at work n child) (key_at work n child)) n child item key)
       swapped = hole_swapped work at item key s on c.known child h away
 
   -- in its seat
-  pub falling_done : {left : List ℕ} {r : Bool} → Sinks n size at key work r → r ≡ false → left ≡ placed work n at item key → Sifted n size found left
-  falling_done {left} t told e =
+  pub falling_done : {left : List ℕ} → Sinks n size at key work None → left ≡ placed work n at item key → Sifted n size found left
+  unfolding Sinks
+  falling_done {left} t e =
       rw e
       (record {
         heaped =
             record {
               seated = s;
-              order = sinking_done c.sinking (λ i p l x. omega (arith, t.no_key told i p l x, own_key work at item key s on c.known, hole_key work at item key s on c.known i l (omega arith)));
+              order = sinking_done c.sinking (λ i p l x. omega (arith, t i p l x, own_key work at item key s on c.known, hole_key work at item key s on c.known i l (omega arith)));
             };
         moved = c.moved;
       })

@@ -6,8 +6,8 @@
 --     Lifted, Dropped              what sift_up and sift_down ask
 --     Sifted                       what both do
 --     Keyed, Lowest                seats in a row, and the one of them with the least key
---     Climbs, Least, Sinks         what the code's tests tell
-use Rattle.std.specs.Prelude.{ℕ, ◌+◌, ◌*◌, ◌≤◌, ◌<◌, ◌≡◌, Bool, true, false, List, length, get_or, set}
+--     Climbs, Least, Sinks         the seat that the item goes on to, where there is one
+use Rattle.std.specs.Prelude.{ℕ, ◌+◌, ◌≤◌, ◌<◌, ◌≡◌, Option, Some, None, List, length, get_or, set}
 use Rattle.heap.specs.Heaps.{most_items, key_of, word_of, In, item_at, key_at, above, Seated, Heaped}
 
 -- an item put at a seat of the heap, with a key
@@ -78,13 +78,12 @@ pub record Lowest (n first end : ℕ) (work : List ℕ) (seat : ℕ) : Type 0 wh
   pub until : seat < end
   pub least : (i : ℕ) → first ≤ i → i < end → key_at work n seat ≤ key_at work n i
 
--- ---- what the code's tests tell
+-- ---- the seat that the item goes on to
 
--- whether the item above has a greater key
-pub record Climbs (n at key : ℕ) (work : List ℕ) (up : Bool) : Type 0 where
-  pub yes_low : up ≡ true → 0 < at
-  pub yes_key : up ≡ true → key < key_at work n (above at)
-  pub no_key : up ≡ false → 0 < at → key_at work n (above at) ≤ key
+-- the seat above, where its item has a greater key
+unfoldable pub Climbs : (n at key : ℕ) → (work : List ℕ) → (up : Option ℕ) → Type 0
+Climbs n at key work (Some up) = (0 < at) × (up ≡ above at) × (key < key_at work n up)
+Climbs n at key work None = 0 < at → key_at work n (above at) ≤ key
 
 -- the child with the least key
 pub record Least (n size at : ℕ) (work : List ℕ) (child : ℕ) : Type 0 where
@@ -93,8 +92,7 @@ pub record Least (n size at : ℕ) (work : List ℕ) (child : ℕ) : Type 0 wher
   pub child_of : above child ≡ at
   pub least : (i : ℕ) → 0 < i → i < size → above i ≡ at → key_at work n child ≤ key_at work n i
 
--- whether one has a lesser key
-pub record Sinks (n size at key : ℕ) (work : List ℕ) (down : Bool) : Type 0 where
-  pub yes_low : down ≡ true → 4 * at + 1 < size
-  pub yes_key : down ≡ true → (child : ℕ) → Least n size at work child → key_at work n child < key
-  pub no_key : down ≡ false → (i : ℕ) → 0 < i → i < size → above i ≡ at → key ≤ key_at work n i
+-- that one, where its key is lesser
+unfoldable pub Sinks : (n size at key : ℕ) → (work : List ℕ) → (down : Option ℕ) → Type 0
+Sinks n size at key work (Some down) = Least n size at work down × (key_at work n down < key)
+Sinks n size at key work None = (i : ℕ) → 0 < i → i < size → above i ≡ at → key ≤ key_at work n i

@@ -3,13 +3,15 @@ ghost use Rattle.std.specs.Prelude.{◌≡◌, ◌+◌, ◌≤◌, ◌<◌, leng
 ghost use Rattle.heap.specs.Heaps.{settled_slot, most_items, greatest_key, key_of, word_of, item_at, key_at};
 ghost use Rattle.heap.specs.Sifts.{placed};
 
-// How many slots an entry can name.
+// How many slots an entry can name. Key and slot stand in one number: an entry is a word of the slice that C
+// lends.
 pub const SLOTS: u64 = 1048576;
 
 // The slot of an item that has left the heap: no seat has this number.
 pub const SETTLED: u64 = 1048575;
 
 // The key of an item.
+#[tactic(auto, unfolding(crate::specs::Heaps::key_of))]
 pub fn key_of(work: &[u64], item: usize) -> u64
     requires { item < length work.now }
     ensures { result ≡ key_of (get_or work.now item 0) }
@@ -26,6 +28,7 @@ pub fn word_at(work: &[u64], n: usize, at: usize) -> u64
 }
 
 // The item at a seat.
+#[tactic(auto, unfolding(crate::specs::Heaps::slot_of))]
 pub fn item_at(work: &[u64], n: usize, at: usize) -> usize
     requires { (n ≤ most_items) × (at < n) × (n + at < length work.now) }
     ensures { result ≡ item_at work.now n at }
@@ -34,6 +37,7 @@ pub fn item_at(work: &[u64], n: usize, at: usize) -> usize
 }
 
 // The key of the item at a seat.
+#[tactic(auto, unfolding(crate::specs::Heaps::key_of))]
 pub fn key_at(work: &[u64], n: usize, at: usize) -> u64
     requires { (n ≤ most_items) × (at < n) × (n + at < length work.now)
         × (key_of (get_or work.now (n + at) 0) ≡ key_at work.now n at) }
@@ -43,6 +47,7 @@ pub fn key_at(work: &[u64], n: usize, at: usize) -> u64
 }
 
 // Puts an item with a key at a seat: the entry and the heap's word together.
+#[tactic(auto, unfolding(crate::specs::Sifts::placed, crate::specs::Heaps::word_of))]
 pub fn put(work: &mut [u64], n: usize, at: usize, item: usize, key: u64)
     requires { (n ≤ most_items) × (n + n ≤ length work.old) × (at < n) × (item < n) × (key ≤ greatest_key) }
     ensures { work.new ≡ placed work.old n at item key }
@@ -63,6 +68,7 @@ pub fn shift(work: &mut [u64], n: usize, from: usize, to: usize)
 }
 
 // The item has left the heap: its slot says so.
+#[tactic(auto, unfolding(crate::specs::Heaps::key_of, crate::specs::Heaps::word_of))]
 pub fn settle(work: &mut [u64], item: usize)
     requires { (item < length work.old) × (key_of (get_or work.old item 0) ≤ greatest_key) }
     ensures { work.new ≡ set work.old item (word_of (key_of (get_or work.old item 0)) settled_slot) }

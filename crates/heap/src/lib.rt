@@ -1,6 +1,6 @@
 // A heap of numbered items by their distances, in a slice that the caller lends. An item knows its seat, so
-// that its distance can be lowered where it stands. The layout and what each function does are in
-// specs/Heaps.antt.
+// that its distance can be lowered where it stands. The slice is in no struct of the heap: the search stores
+// in it too, past the heap. The layout and what each function does are in specs/Heaps.antt.
 #![tactic(auto)]
 
 ghost use Rattle.std.specs.Prelude.{◌<◌};
@@ -14,6 +14,7 @@ use sift::{sift_down, sift_up};
 
 // Puts an item in, or lowers its distance; answers the heap's size. Nothing changes where the item is settled
 // or its distance is no greater.
+#[tactic(auto, unfolding(crate::specs::Heaps::key_of, crate::specs::Heaps::slot_of))]
 pub fn lower(work: &mut [u64], n: usize, size: usize, item: usize, distance: u64) -> usize
     requires { (Heaped n size work.old) × (item < n) × (distance < greatest_key) }
     ensures { Lowered n size item distance work.old work.new result }

@@ -1,47 +1,39 @@
 // An item finds its seat in the heap: it goes up while the one above it has a greater key, or down while one
 // below has a lesser. The others move into the hole that it leaves, and it is put at the end.
-ghost use Rattle.std.specs.Prelude.{◌≡◌, cond, ◌+◌, ◌*◌, ◌<◌, ltb};
+ghost use Rattle.std.specs.Prelude.{◌+◌, ◌*◌, ◌<◌};
 ghost use Rattle.heap.specs.Sifts.{placed, Lifted, Dropped, Held, Sifted, Keyed, Lowest, Climbs, Least, Sinks};
 
 use crate::cells::{key_at, put, shift, word_at};
 
-// Whether the item above a seat has a greater key.
-fn climbs(work: &[u64], n: usize, size: usize, at: usize, key: u64) -> bool
+// The seat above, where its item has a greater key.
+#[tactic(auto, unfolding(crate::specs::Sifts::Climbs))]
+fn greater_above(work: &[u64], n: usize, size: usize, at: usize, key: u64) -> Option<usize>
     requires { Held n size at work.now }
     ensures { Climbs n at key work.now result }
 {
     if at == 0 {
-        return false;
+        return None;
     }
-    key < key_at(work, n, (at - 1) / 4)
+    let up = (at - 1) / 4;
+    if key < key_at(work, n, up) {
+        Some(up)
+    } else {
+        None
+    }
 }
 
 // Puts an item at a seat of a heap of `size`, or higher.
+#[tactic(auto, unfolding(crate::specs::Sifts::Climbs))]
 pub fn sift_up(work: &mut [u64], n: usize, size: usize, from: usize, item: usize, key: u64)
     requires { Lifted n size from item key work.old }
     ensures { Sifted n size (placed work.old n from item key) work.new }
 {
     let mut at = from;
-    while climbs(work, n, size, at, key) {
-        let up = (at - 1) / 4;
+    while let Some(up) = greater_above(work, n, size, at, key) {
         shift(work, n, up, at);
         at = up;
     }
     put(work, n, at, item, key);
-}
-
-// 1 where a test passes, with no branch.
-fn one_if(test: bool) -> usize
-    ensures { result ≡ cond test 1 0 }
-{
-    test as usize
-}
-
-// The lesser of two words.
-fn lesser(a: u64, b: u64) -> u64
-    ensures { result ≡ cond (ltb b a) b a }
-{
-    if b < a { b } else { a }
 }
 
 // Of four seats in a row the one with the least key: the lesser of each pair, then of the two. Each word is
@@ -54,9 +46,9 @@ fn least_of_four(work: &[u64], n: usize, first: usize) -> usize
     let b = word_at(work, n, first + 1);
     let c = word_at(work, n, first + 2);
     let d = word_at(work, n, first + 3);
-    let i = first + one_if(b < a);
-    let j = first + 2 + one_if(d < c);
-    if lesser(c, d) < lesser(a, b) { j } else { i }
+    let i = first + usize::from(b < a);
+    let j = first + 2 + usize::from(d < c);
+    if c.min(d) < a.min(b) { j } else { i }
 }
 
 // Of the seats from one to the heap's end the one with the least key.
@@ -85,25 +77,31 @@ fn lesser_child(work: &[u64], n: usize, size: usize, at: usize) -> usize
     least_of_four(work, n, first)
 }
 
-// Whether an item right below a seat has a lesser key.
-fn sinks(work: &[u64], n: usize, size: usize, at: usize, key: u64) -> bool
+// The seat below with the least key, where that is lesser.
+#[tactic(auto, unfolding(crate::specs::Sifts::Sinks))]
+fn lesser_below(work: &[u64], n: usize, size: usize, at: usize, key: u64) -> Option<usize>
     requires { Held n size at work.now }
     ensures { Sinks n size at key work.now result }
 {
     if size <= 4 * at + 1 {
-        return false;
+        return None;
     }
-    key_at(work, n, lesser_child(work, n, size, at)) < key
+    let down = lesser_child(work, n, size, at);
+    if key_at(work, n, down) < key {
+        Some(down)
+    } else {
+        None
+    }
 }
 
 // Puts an item at a seat of a heap of `size`, or lower.
+#[tactic(auto, unfolding(crate::specs::Sifts::Sinks))]
 pub fn sift_down(work: &mut [u64], n: usize, size: usize, from: usize, item: usize, key: u64)
     requires { Dropped n size from item key work.old }
     ensures { Sifted n size (placed work.old n from item key) work.new }
 {
     let mut at = from;
-    while sinks(work, n, size, at, key) {
-        let down = lesser_child(work, n, size, at);
+    while let Some(down) = lesser_below(work, n, size, at, key) {
         shift(work, n, down, at);
         at = down;
     }

@@ -10,10 +10,10 @@
 use Prim.Native.Nat.{ℕ, ◌+◌, ◌-◌, ◌*◌, ◌^◌, min, ◌≤◌, ◌<◌}
 use mathlib.Core.Path.{◌≡◌, refl, ap, sym, ◌∙◌}
 use mathlib.Core.List.{List}
-use mathlib.Core.Bool.{Bool, true, false, not, cond}
+use mathlib.Core.Bool.{Bool, true, false, cond}
 use native.Mathlib.Nat.{min-le_left, min-le_right}
 use native.Mathlib.Omega.{arith}
-use borrow.Author.Tests.{leb-true, not-true, not-false}
+use borrow.Author.Tests.{leb-true}
 use lib.Dec.{T, leb, leb→le}
 use lib.ListN.{length}
 use Rattle.bits.specs.Bits.{bits_of, whole}
@@ -24,12 +24,12 @@ use Rattle.bits.proofs.Laws.{length-bits_of, bits_of_bits, field_below}
 -- w bits are tested
 module _ (w : ℕ) (bits : List ℕ) (at : ℕ) {answer : Bool} (e : answer ≡ whole bits at w) where
   -- a group whose test did not fail is whole
-  pub is_whole : not answer ≡ false → whole bits at w ≡ true
-  is_whole h = sym e ∙ not-false answer h
+  pub is_whole : answer ≡ true → whole bits at w ≡ true
+  is_whole h = sym e ∙ h
 
   -- a group whose test failed is cut
-  pub is_cut : not answer ≡ true → whole bits at w ≡ false
-  is_cut h = sym e ∙ not-true answer h
+  pub is_cut : answer ≡ false → whole bits at w ≡ false
+  is_cut h = sym e ∙ h
 
 -- what is chosen and is not the second is the first, and the test is true
 pub first_arm : {A : Type 0} (test : Bool) (x y z : A) → cond test x y ≡ z → (y ≡ z → ⊥) → (test ≡ true) × (x ≡ z)

@@ -4,6 +4,7 @@
 --     Fields            a group field by field
 --     Tests, Binds      tests as facts, readings taken apart
 --     Numbered          a refusal has a number
+--     Refusals          what the code answers where it may refuse
 pub mod TwoWay
 pub mod Grids
 pub mod Sizes
@@ -11,3 +12,4 @@ pub mod Fields
 pub mod Tests
 pub mod Binds
 pub mod Numbered
+pub mod Refusals

@@ -7,3 +7,4 @@ pub mod Good
 pub mod Structs
 pub mod Heads
 pub mod Slices
+pub mod Refusals

@@ -1,6 +1,6 @@
 -- The forms in which the code holds the parts of a job, each made from the records of Job and the readers of
 -- Reading.
-use Rattle.std.specs.Prelude.{ℕ, ◌≤◌, ◌<◌, suc, ◌+◌, ◌-◌, List, map, ◌++◌, cond, replicate, length, eqb}
+use Rattle.std.specs.Prelude.{ℕ, ◌≤◌, ◌<◌, suc, ◌+◌, ◌-◌, List, map, ◌++◌, cond, replicate, length, eqb, Option, Some, None}
 use Rattle.bits.specs.Bits.{bits_of, field, whole}
 use Rattle.job.specs.Grid.{Grid, Vertex, vertices}
 use Rattle.job.specs.Job.{closed_price, Layer, Obstacle, Box}
@@ -13,13 +13,7 @@ use Rattle.job.specs.declared.groups.Head.{Head as HeadStruct}
 use Rattle.job.specs.declared.groups.Layer.{Layer as LayerStruct}
 use Rattle.job.specs.declared.groups.Obstacle.{Obstacle as ObstacleStruct}
 use Rattle.job.specs.declared.groups.Box.{Box as BoxStruct}
-use Rattle.job.specs.declared.layers.Layers.{Layers}
-use Rattle.job.specs.declared.groups.HeadGroup.{HeadGroup}
-use Rattle.job.specs.declared.groups.LayerGroup.{LayerGroup}
-use Rattle.job.specs.declared.groups.VertexGroup.{VertexGroup}
-use Rattle.job.specs.declared.groups.ObstacleGroup.{ObstacleGroup}
-use Rattle.job.specs.declared.groups.NetGroup.{NetGroup}
-use Rattle.job.specs.declared.groups.BoxGroup.{BoxGroup}
+use Rattle.job.specs.declared.groups.NetHead.{NetHead}
 
 unfoldable pub penalty_of : ℕ → Penalty
 penalty_of field = cond (eqb field closed_price) Closed (Price field)
@@ -73,48 +67,46 @@ box_struct b =
       columns = record { low = b.column_low; high = b.column_high };
     }
 
--- an array of eight: what each layer holds, then 0
-unfoldable pub eight : List ℕ → List ℕ
-eight xs = xs ++ replicate (8 - length xs) 0
+-- past the top layer
+unfoldable pub no_line : LayerStruct
+no_line = record { wire = 0; via = 0; least = 0; area = 0 }
 
-unfoldable pub layers_of : List Layer → Layers
-layers_of ls =
-    record {
-      wire = eight (map (λ (l : Layer). l.wire) ls);
-      via = eight (map (λ (l : Layer). l.via) ls);
-      least = eight (map (λ (l : Layer). l.min_length) ls);
-      area = eight (map (λ (l : Layer). l.area) ls);
-    }
+-- an array of eight: the line of each layer, then lines of zeros
+unfoldable pub eight : List LayerStruct → List LayerStruct
+eight ls = ls ++ replicate (8 - length ls) no_line
+
+unfoldable pub layers_of : List Layer → List LayerStruct
+layers_of ls = eight (map layer_struct ls)
 
 -- ---- groups: whole, or cut
 
-unfoldable pub head_group : List ℕ → HeadGroup
+unfoldable pub head_group : List ℕ → Option (ℕ × HeadStruct)
 head_group bytes =
     cond (whole (bits_of bytes) 0 80)
-    (HeadGroup.Whole (field (bits_of bytes) 0 4) (head_struct (head_at (bits_of bytes) 0)))
-    HeadGroup.Cut
+    (Some (field (bits_of bytes) 0 4, head_struct (head_at (bits_of bytes) 0)))
+    None
 
-unfoldable pub layer_group : List ℕ → ℕ → LayerGroup
+unfoldable pub layer_group : List ℕ → ℕ → Option LayerStruct
 layer_group bytes at =
-    cond (whole (bits_of bytes) at 40) (LayerGroup.Whole (layer_struct (layer_at (bits_of bytes) at))) LayerGroup.Cut
+    cond (whole (bits_of bytes) at 40) (Some (layer_struct (layer_at (bits_of bytes) at))) None
 
-unfoldable pub vertex_group : List ℕ → ℕ → VertexGroup
+unfoldable pub vertex_group : List ℕ → ℕ → Option VertexStruct
 vertex_group bytes at =
-    cond (whole (bits_of bytes) at 19) (VertexGroup.Whole (vertex_struct (vertex_at (bits_of bytes) at))) VertexGroup.Cut
+    cond (whole (bits_of bytes) at 19) (Some (vertex_struct (vertex_at (bits_of bytes) at))) None
 
-unfoldable pub obstacle_group : List ℕ → ℕ → ObstacleGroup
+unfoldable pub obstacle_group : List ℕ → ℕ → Option ObstacleStruct
 obstacle_group bytes at =
-    cond (whole (bits_of bytes) at 27) (ObstacleGroup.Whole (obstacle_struct (obstacle_at (bits_of bytes) at))) ObstacleGroup.Cut
+    cond (whole (bits_of bytes) at 27) (Some (obstacle_struct (obstacle_at (bits_of bytes) at))) None
 
-unfoldable pub net_group : List ℕ → ℕ → NetGroup
+unfoldable pub net_group : List ℕ → ℕ → Option NetHead
 net_group bytes at =
     cond (whole (bits_of bytes) at 8)
-    (NetGroup.Whole (record { pins = suc (field (bits_of bytes) at 4); boxes = field (bits_of bytes) (at + 4) 4 }))
-    NetGroup.Cut
+    (Some (record { pins = suc (field (bits_of bytes) at 4); boxes = field (bits_of bytes) (at + 4) 4 }))
+    None
 
-unfoldable pub box_group : List ℕ → ℕ → BoxGroup
+unfoldable pub box_group : List ℕ → ℕ → Option BoxStruct
 box_group bytes at =
-    cond (whole (bits_of bytes) at 38) (BoxGroup.Whole (box_struct (box_at (bits_of bytes) at))) BoxGroup.Cut
+    cond (whole (bits_of bytes) at 38) (Some (box_struct (box_at (bits_of bytes) at))) None
 
 -- ---- what the code asks of a grid
 

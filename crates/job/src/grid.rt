@@ -5,6 +5,7 @@ ghost use Rattle.job.specs.Structs.{Small, InFields, grid_of, vertex_of};
 
 #[derive(Clone, Copy)]
 pub struct Grid {
+    // 0 or 1: a number, since a layer's number is added to it.
     pub direction: usize,
     pub layers: usize,
     pub columns: usize,

@@ -1,4 +1,5 @@
-// The groups of a job: each is read whole into its fields, or is cut short by the end of the bytes.
+// The groups of a job: each is read whole into its fields, or there is none where the end of the
+// bytes cuts it short.
 ghost use Rattle.std.specs.Prelude.{◌≡◌, ◌<◌, ◌^◌};
 ghost use Rattle.job.specs.Structs.{head_group, layer_group, vertex_group, obstacle_group, net_group, box_group};
 
@@ -14,7 +15,7 @@ pub struct Head {
     pub obstacles: usize,
 }
 
-#[derive(Clone, Copy)]
+#[derive(Clone, Copy, Default)]
 pub struct Layer {
     pub wire: usize,
     pub via: usize,
@@ -50,48 +51,12 @@ pub struct Box {
 }
 
 // The edition, and the rest of the head.
-#[derive(Clone, Copy)]
-pub enum HeadGroup {
-    Whole(usize, Head),
-    Cut,
-}
-
-#[derive(Clone, Copy)]
-pub enum LayerGroup {
-    Whole(Layer),
-    Cut,
-}
-
-#[derive(Clone, Copy)]
-pub enum VertexGroup {
-    Whole(Vertex),
-    Cut,
-}
-
-#[derive(Clone, Copy)]
-pub enum ObstacleGroup {
-    Whole(Obstacle),
-    Cut,
-}
-
-#[derive(Clone, Copy)]
-pub enum NetGroup {
-    Whole(NetHead),
-    Cut,
-}
-
-#[derive(Clone, Copy)]
-pub enum BoxGroup {
-    Whole(Box),
-    Cut,
-}
-
-pub fn head_group(s: &[u8]) -> HeadGroup
+pub fn head_group(s: &[u8]) -> Option<(usize, Head)>
     ensures { result ≡ head_group s.now }
 {
     let start = Cursor { at: 0 };
     if !start.whole(s, 80) {
-        return HeadGroup::Cut;
+        return None;
     }
     let edition = start.field(s, 4);
     let direction = edition.next.field(s, 1);
@@ -108,7 +73,7 @@ pub fn head_group(s: &[u8]) -> HeadGroup
         columns: columns.value + 1,
         rows: rows.value + 1,
     };
-    HeadGroup::Whole(
+    Some((
         edition.value,
         Head {
             grid,
@@ -117,22 +82,22 @@ pub fn head_group(s: &[u8]) -> HeadGroup
             nets: nets.value,
             obstacles: obstacles.value,
         },
-    )
+    ))
 }
 
-pub fn layer_group(s: &[u8], at: usize) -> LayerGroup
+pub fn layer_group(s: &[u8], at: usize) -> Option<Layer>
     requires { at < 2 ^ 32 }
     ensures { result ≡ layer_group s.now at }
 {
     let start = Cursor { at };
     if !start.whole(s, 40) {
-        return LayerGroup::Cut;
+        return None;
     }
     let wire = start.field(s, 10);
     let via = wire.next.field(s, 10);
     let least = via.next.field(s, 4);
     let area = least.next.field(s, 16);
-    LayerGroup::Whole(Layer {
+    Some(Layer {
         wire: wire.value,
         via: via.value,
         least: least.value,
@@ -140,31 +105,31 @@ pub fn layer_group(s: &[u8], at: usize) -> LayerGroup
     })
 }
 
-pub fn vertex_group(s: &[u8], at: usize) -> VertexGroup
+pub fn vertex_group(s: &[u8], at: usize) -> Option<Vertex>
     requires { at < 2 ^ 40 }
     ensures { result ≡ vertex_group s.now at }
 {
     let start = Cursor { at };
     if !start.whole(s, 19) {
-        return VertexGroup::Cut;
+        return None;
     }
     let layer = start.field(s, 3);
     let row = layer.next.field(s, 8);
     let column = row.next.field(s, 8);
-    VertexGroup::Whole(Vertex {
+    Some(Vertex {
         layer: layer.value,
         row: row.value,
         column: column.value,
     })
 }
 
-pub fn obstacle_group(s: &[u8], at: usize) -> ObstacleGroup
+pub fn obstacle_group(s: &[u8], at: usize) -> Option<Obstacle>
     requires { at < 2 ^ 32 }
     ensures { result ≡ obstacle_group s.now at }
 {
     let start = Cursor { at };
     if !start.whole(s, 27) {
-        return ObstacleGroup::Cut;
+        return None;
     }
     let layer = start.field(s, 3);
     let row = layer.next.field(s, 8);
@@ -175,35 +140,35 @@ pub fn obstacle_group(s: &[u8], at: usize) -> ObstacleGroup
         row: row.value,
         column: column.value,
     };
-    ObstacleGroup::Whole(Obstacle {
+    Some(Obstacle {
         first,
         run: run.value + 1,
     })
 }
 
-pub fn net_group(s: &[u8], at: usize) -> NetGroup
+pub fn net_group(s: &[u8], at: usize) -> Option<NetHead>
     requires { at < 2 ^ 32 }
     ensures { result ≡ net_group s.now at }
 {
     let start = Cursor { at };
     if !start.whole(s, 8) {
-        return NetGroup::Cut;
+        return None;
     }
     let pins = start.field(s, 4);
     let boxes = pins.next.field(s, 4);
-    NetGroup::Whole(NetHead {
+    Some(NetHead {
         pins: pins.value + 1,
         boxes: boxes.value,
     })
 }
 
-pub fn box_group(s: &[u8], at: usize) -> BoxGroup
+pub fn box_group(s: &[u8], at: usize) -> Option<Box>
     requires { at < 2 ^ 32 }
     ensures { result ≡ box_group s.now at }
 {
     let start = Cursor { at };
     if !start.whole(s, 38) {
-        return BoxGroup::Cut;
+        return None;
     }
     let layer_low = start.field(s, 3);
     let layer_high = layer_low.next.field(s, 3);
@@ -223,7 +188,7 @@ pub fn box_group(s: &[u8], at: usize) -> BoxGroup
         low: column_low.value as u8,
         high: column_high.value as u8,
     };
-    BoxGroup::Whole(Box {
+    Some(Box {
         layers,
         rows,
         columns,

@@ -3,5 +3,5 @@
 
 pub mod grid;
 pub mod groups;
-pub mod layers;
 pub mod penalty;
+pub mod refusal;

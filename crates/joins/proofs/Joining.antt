@@ -8,6 +8,7 @@ use mathlib.Core.Path.{◌≡◌, refl, sym, ap, subst, ◌∙◌}
 use mathlib.Core.List.{List, [], ◌∷◌, ◌++◌, flat_map}
 use native.Mathlib.Omega.{arith}
 use lib.ListN.{length}
+use Rattle.std.proofs.Common.{Option, Some, None}
 use Rattle.bits.specs.Bits.{field_bits, group_bits}
 use Rattle.bits.specs.Puts.{put_bits}
 use Rattle.bits.proofs.Laws.{length-field_bits, put_bits-append}
@@ -29,7 +30,6 @@ use Rattle.search.specs.Charts.{Charted, lowest_led}
 use Rattle.joins.specs.Traces.{route_by, join_by_spots}
 use Rattle.joins.specs.Joined.{left_by, IsJoined, JoinedFits, Written}
 use Rattle.joins.specs.declared.join.Joined.{Joined}
-use Rattle.joins.specs.declared.join.Joined.TheVariants as Joins
 use Rattle.joins.proofs.Tracing.{start_on, route_short}
 use Rattle.joins.proofs.Found.{found_join, found_led}
 
@@ -62,7 +62,7 @@ start_led t view spots good charted lowest =
 module _ (t : Tech) (view : View) (net at : ℕ) (arrays : Arrays) (plan : List ℕ) where
   -- none
   pub written_none : {r : Record} {longer : List ℕ} → r ≡ none → longer ≡ put_bits plan at (field_bits 1 0)
-      → Written t view net at arrays plan Joins.None r arrays.spots arrays.codes longer
+      → Written t view net at arrays plan None r arrays.spots arrays.codes longer
   unfolding IsJoined JoinedFits left_by record_bits
   written_none is put = rw is (record { joined = tt; fits = tt; tree = refl; laid = refl; put = put })
 
@@ -71,13 +71,13 @@ module _ (t : Tech) (view : View) (net at : ℕ) (arrays : Arrays) (plan : List 
       → length moves < 2 ^ 20 → count ≡ length moves → IsEntered w (enter_all t view net moves (gone_at start) arrays) → WalkFits w
       → spots ≡ (left_in arrays (enter_all t view net moves (gone_at start) arrays)).spots
       → codes ≡ (left_in arrays (enter_all t view net moves (gone_at start) arrays)).codes
-      → longer ≡ put_bits plan at (record_bits t.grid (join start moves cost)) → Written t view net at arrays plan (Joins.Join w (at + 2 * count + 80)) r spots codes longer
+      → longer ≡ put_bits plan at (record_bits t.grid (join start moves cost)) → Written t view net at arrays plan (Some (record { walk = w; next = at + 2 * count + 80 })) r spots codes longer
   unfolding IsJoined JoinedFits left_by
   written_first is few counted entered fits tree laid put =
       rw (is, counted) (record { joined = (refl, entered); fits = (fits, omega (arith, few)); tree = tree; laid = laid; put = put })
 
   -- what is told by the bytes is the join of what stands
-  pub written_joined : (answer : Joined) {spots codes longer : List ℕ} → GoodTech t → Written t view net at arrays plan answer (join_by_spots t view arrays.spots) spots codes longer
+  pub written_joined : (answer : Option Joined) {spots codes longer : List ℕ} → GoodTech t → Written t view net at arrays plan answer (join_by_spots t view arrays.spots) spots codes longer
       → (tree unjoined : List ℕ) → Spots t.grid tree unjoined arrays.spots → Apart t tree unjoined
       → Written t view net at arrays plan answer (join_of t view tree unjoined) spots codes longer
   written_joined answer {spots} {codes} {longer} good written tree unjoined led apart =

@@ -13,6 +13,7 @@ use mathlib.Core.List.{List, [], ◌∷◌, ◌++◌, flat_map}
 use mathlib.Core.Bool.{Bool, true, false}
 use native.Mathlib.Omega.{arith}
 use lib.ListN.{length, set}
+use Rattle.std.proofs.Common.{Some}
 use Rattle.bits.specs.Bits.{field_bits}
 use Rattle.bits.specs.Puts.{put_bits}
 use Rattle.bits.proofs.Laws.{length-field_bits, length-put_bits, put_bits-append}
@@ -23,14 +24,12 @@ use Rattle.paths.specs.Costs.{Cost}
 use Rattle.paths.proofs.Following.{follow_goal, Onward, follow_onward}
 use Rattle.rules.specs.Views.{View}
 use Rattle.rules.specs.Segments.{Place}
-use Rattle.rules.specs.Steps.{Made, legal, step, priced}
+use Rattle.rules.specs.Steps.{Made, legal, illegal, step, priced}
 use Rattle.rules.specs.Joins.{places}
 use Rattle.rules.specs.Places.{GoodPlace}
 use Rattle.rules.specs.Structs.{TechFits, tech_by, seen_by, place_of, stepped_by, made_by, WholeMade, WholeStep, IsStepped}
 use Rattle.rules.specs.declared.price.Tech.{Tech as TechStruct}
 use Rattle.rules.specs.declared.step.Made.{Made as MadeStruct}
-use Rattle.rules.specs.declared.step.Stepped.{Stepped as SteppedEnum}
-use Rattle.rules.specs.declared.step.Stepped.TheVariants.{Illegal, Legal}
 use Rattle.metal.specs.Codes.{lay_all, extended}
 use Rattle.metal.proofs.Laid.{laid_length}
 use Rattle.walker.specs.Entering.{Arrays, Gone, gone_at, gone_on, entered, enter_all, left_in}
@@ -135,33 +134,33 @@ module _ (tech : TechStruct) (seen bounds work : List ℕ) (net from best count 
     writing_number fits charted told =
         rw so_far.made.is.place at told ∙ on_lowest (tech_by tech) view first.spots charted fits.good place_good (so_far.joins some) onward.entry
 
-    module _ {number : ℕ} (numbered : Lowest number) {r : SteppedEnum}
-        (stepped : IsStepped (grid_of tech.grid) view (place_of walk.place) r (step (tech_by tech) view (place_of walk.place) number)) where
+    module _ {number : ℕ} (numbered : Lowest number) where
       -- what it leads to
       leads : priced (step (tech_by tech) view (place_of walk.place) number) ≡ to onward.price onward.next
       leads = rw (so_far.made.is.place, numbered) onward.leads
 
       -- it is legal
-      pub writing_legal : r ≡ Illegal → ⊥
-      unfolding stepped_by priced
+      pub writing_legal : step (tech_by tech) view (place_of walk.place) number ≡ illegal → ⊥
+      unfolding priced
       writing_legal is =
-          let stops : priced (step (tech_by tech) view (place_of walk.place) number) ≡ blocked = rw (← stepped.same, is) refl in
+          let stops : priced (step (tech_by tech) view (place_of walk.place) number) ≡ blocked = rw is refl in
           let e : blocked ≡ to onward.price onward.next = sym stops ∙ leads in
           let z : ◌≡◌ {A = ℕ} 0 1 = cc in
           omega arith
 
-      module _ (m : MadeStruct) (told : r ≡ Legal m) where
+      module _ (m : MadeStruct)
+          (stepped : IsStepped (grid_of tech.grid) view (place_of walk.place) (Some m) (step (tech_by tech) view (place_of walk.place) number)) where
         -- the definition's move
         abbrev made : Made
         made = made_by (grid_of tech.grid) view (place_of walk.place) m
 
         is_step : step (tech_by tech) view (place_of walk.place) number ≡ legal made
         unfolding stepped_by
-        is_step = sym (rw told at stepped.same)
+        is_step = sym stepped.same
 
         is_whole : WholeMade (grid_of tech.grid) view (place_of walk.place) m
         unfolding WholeStep
-        is_whole = rw told at stepped.whole
+        is_whole = stepped.whole
 
         -- the place that it leads to
         is_next : onward.next ≡ place_of m.next

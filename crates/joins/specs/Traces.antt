@@ -4,7 +4,7 @@
 --     route_by         the moves from a vertex: at each place the lowest that keeps the cost to go
 --     join_by_spots    the join from the chosen start, or none
 --     Told             what a search found tells it
-use Rattle.std.specs.Prelude.{ℕ, ◌≤◌, ◌<◌, ◌≡◌, List}
+use Rattle.std.specs.Prelude.{ℕ, ◌≡◌, List, Option, Some, None}
 use Rattle.job.specs.Grid.{vertices}
 use Rattle.paths.specs.Distances.{dist, follow}
 use Rattle.paths.specs.Costs.{Cost}
@@ -14,8 +14,9 @@ use Rattle.rules.specs.Segments.{Place}
 use Rattle.rules.specs.Prices.{Tech}
 use Rattle.rules.specs.Walks.{start_at}
 use Rattle.rules.specs.Joins.{Record, places}
-use Rattle.search.specs.Fronts.{system_by, starts_by, no_goal}
+use Rattle.search.specs.Fronts.{system_by, starts_by}
 use Rattle.search.specs.Charts.{Charted, lowest_led}
+use Rattle.joins.specs.declared.join.Cheapest.{Cheapest}
 
 module _ (t : Tech) (view : View) (spots : List ℕ) where
   -- the least cost to go from each place
@@ -41,6 +42,6 @@ module _ (t : Tech) (view : View) (spots : List ℕ) where
 
 -- what a search found: a start and the cost of the join from there, by the leads of the work slice; or that
 -- there is no join
-pub record Told (t : Tech) (view : View) (spots work : List ℕ) (start cost : ℕ) : Type 0 where
-  pub found : cost < no_goal → (bounds : List ℕ) × (Charted t view spots bounds work cost) × (start ≡ lowest_led t view spots work)
-  pub none : no_goal ≤ cost → join_by_spots t view spots ≡ Record.none
+unfoldable pub Told : Tech → View → (spots work : List ℕ) → Option Cheapest → Type 0
+Told t view spots work (Some c) = (bounds : List ℕ) × (Charted t view spots bounds work c.cost) × (c.start ≡ lowest_led t view spots work)
+Told t view spots work None = join_by_spots t view spots ≡ Record.none

@@ -2,6 +2,7 @@
 #![tactic(auto)]
 
 pub mod join;
+pub mod led;
 pub mod next;
 pub mod record;
 pub mod trace;

@@ -1,16 +1,14 @@
 // The route of the join that a search found: at each place the move that its lead tells, the lowest that
 // leads on, until an unjoined pin.
-ghost use Rattle.std.specs.Prelude.{◌≡◌, List, ℕ, ◌<◌, length, get_or, eqb};
-ghost use Rattle.rules.specs.PriceLists.{Priced};
-ghost use Rattle.rules.specs.Structs.{TechFits, tech_by, seen_by};
+ghost use Rattle.std.specs.Prelude.{◌≡◌, List, ℕ, ◌<◌, ◌^◌, length, get_or, eqb};
+ghost use Rattle.rules.specs.Structs.{tech_by, seen_by};
 ghost use Rattle.search.specs.Charts.{Charted, lowest_led};
 ghost use Rattle.joins.specs.Traces.{route_by};
 
-use rules::price::Tech;
+use crate::led::led_move;
+use rules::price::Prices;
 use rules::segment::Segment;
-use rules::step::{Place, Stepped, step};
-use search::lead::lead_at;
-use search::places::code_of;
+use rules::step::Place;
 use tree::UNJOINED;
 
 // Whether the route ends at a vertex: its byte says that it is an unjoined pin.
@@ -23,17 +21,16 @@ pub fn ends_at(spots: &[u8; 16384], vertex: usize) -> bool
 
 // How many moves the route has.
 pub fn count_moves(
-    tech: Tech,
-    prices: &[usize; 40],
+    prices: &Prices,
     seen: &[u8; 16384],
     spots: &[u8; 16384],
     work: &[u64],
     start: usize,
 ) -> usize
-    requires { (TechFits tech) × (Priced (tech_by tech) prices.now)
-        × ((bounds : List ℕ) × (best : ℕ) × (Charted (tech_by tech) (seen_by tech seen.now) spots.now bounds work.now best))
-        × (start ≡ lowest_led (tech_by tech) (seen_by tech seen.now) spots.now work.now) }
-    ensures { result ≡ length (route_by (tech_by tech) (seen_by tech seen.now) spots.now start) }
+    requires { ((bounds : List ℕ) × (best : ℕ) × (Charted (tech_by prices.now.tech) (seen_by prices.now.tech seen.now) spots.now bounds work.now best))
+        × (start ≡ lowest_led (tech_by prices.now.tech) (seen_by prices.now.tech seen.now) spots.now work.now) }
+    ensures counted { result ≡ length (route_by (tech_by prices.now.tech) (seen_by prices.now.tech seen.now) spots.now start) }
+    ensures few { result < 2 ^ 20 }
 {
     let mut place = Place {
         vertex: start,
@@ -41,11 +38,8 @@ pub fn count_moves(
     };
     let mut count = 0;
     while !ends_at(spots, place.vertex) {
-        let number = lead_at(work, code_of(tech.largest, place));
-        let Stepped::Legal(made) = step(tech.grid, prices, seen, place, number) else {
-            return count;
-        };
-        place = made.next;
+        let led = led_move(prices, seen, work, place);
+        place = led.made.next;
         count += 1;
     }
     count

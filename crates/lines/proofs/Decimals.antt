@@ -4,6 +4,7 @@
 --     decimal_each                                 what holds of one digit, and of a number where it holds of
 --                                                  its tenth, holds of all numbers
 --     value_decimal                                the digits, read back, write the number
+--     decimal_text                                 they are what is printed
 --     decimal_first                                the first digit is no zero, but of zero itself
 --     length_tenth, length-decimal, length_word    how many digits there are: one more than in the tenth, one
 --                                                  at least, twenty at most for a word
@@ -16,6 +17,8 @@ use native.Mathlib.Decide.{dec_lt}
 use native.Mathlib.Omega.{arith}
 use lib.ListN.{length, get_or, length-append, get_or-append}
 use borrow.Author.Tests.{lt-ltb, le-ltb}
+use Rattle.std.specs.Fmt.{decimal as printed}
+use Rattle.std.proofs.lemmas.Fmt.{decimal_digit, decimal_step}
 use Rattle.lines.specs.Lines.{decimal, decimal_by, refused_line}
 use Rattle.lines.specs.Values.{value_from}
 
@@ -71,6 +74,12 @@ unfolding value_from
 value_decimal =
     decimal_each (λ n. value_from 0 (decimal n) ≡ n) (λ n h. rw (decimal_small n h) (omega arith)) (λ n h ih.
     rw (decimal-more n h, value_from-append 0 (decimal (n / 10)) ((48 + n % 10) ∷ []), ih) (omega arith))
+
+-- what `itoa` prints, of a number that fits a word
+pub decimal_text : (n : ℕ) → n < 2 ^ 64 → printed n ≡ decimal n
+decimal_text =
+    decimal_each (λ n. n < 2 ^ 64 → printed n ≡ decimal n) (λ n h l. rw (decimal_small n h) (decimal_digit n h)) (λ n h ih l.
+    rw (decimal_step n h l, decimal-more n h, ih (omega arith)))
 
 -- there is one digit more than in its tenth
 pub length_tenth : (n : ℕ) → 10 ≤ n → length (decimal n) ≡ length (decimal (n / 10)) + 1

@@ -1,15 +1,17 @@
--- Codes that are put into a slice one after the other (`sets`), and the records of specs/Put.antt.
---     sets_append, sets_last     codes put in two parts; the last of them put first
+-- Codes that are put into a slice one after the other (`sets`), and the records of specs/Puts.antt.
+--     sets_append                codes put in two parts
+--     put_part                   the part of a slice where they stand, written at once
 --     put_then                   what is put after what was put
 --     written                    codes put at the front are a line
 --     written_within             the line lies in the slice: what lending its front asks
-use Prim.Native.Nat.{ℕ, suc, ◌+◌, ◌≤◌}
+use Prim.Native.Nat.{ℕ, suc, ◌+◌, ◌-◌, ◌≤◌}
 use mathlib.Core.Path.{◌≡◌, sym, ◌∙◌}
-use mathlib.Core.List.{List, [], ◌∷◌, ◌++◌}
+use mathlib.Core.List.{List, [], ◌∷◌, ◌++◌, append_assoc}
 use native.Mathlib.Nat.{add-zero}
 use native.Mathlib.Omega.{arith}
-use lib.ListN.{length, take, set, length-append}
-use lib.Seq.{sets, sets-eq, set_comm, length-take-le}
+use lib.ListN.{length, take, drop, set, length-append}
+use borrow.Rule.Slice.PartMut.{put_mid}
+use lib.Seq.{drop-drop, sets, sets-eq, length-take-le}
 use Rattle.lines.specs.Written.{Written}
 use Rattle.lines.specs.Puts.{PutAt}
 
@@ -19,11 +21,10 @@ sets_append l i (x ∷ xs) ys =
     let e : suc i + length xs ≡ i + suc (length xs) = omega arith in
     rw (← e) (sets_append (set l i x) (suc i) xs ys)
 
-pub sets_last : (l : List ℕ) (i : ℕ) (xs : List ℕ) (d : ℕ) → sets (set l (i + length xs) d) i xs ≡ sets l i (xs ++ (d ∷ []))
-sets_last l i [] d = rw add-zero
-sets_last l i (x ∷ xs) d =
-    let e : i + suc (length xs) ≡ suc i + length xs = omega arith in
-    rw (e, set_comm l (suc i + length xs) i d x (λ q. omega arith)) (sets_last (set l i x) (suc i) xs d)
+pub put_part : (l : List ℕ) (i : ℕ) (xs : List ℕ) → i + length xs ≤ length l → put_mid i (i + length xs - i) l xs ≡ sets l i xs
+put_part l i xs h =
+    let k : i + length xs - i ≡ length xs = omega arith in
+    rw (sets-eq xs l i h, k, drop-drop (length xs) i l) (sym (append_assoc (take i l) xs (drop (i + length xs) l)))
 
 pub put_then : (a b c : List ℕ) (i j k : ℕ) (xs ys : List ℕ) → PutAt a b i j xs → PutAt b c j k ys → PutAt a c i k (xs ++ ys)
 put_then a b c i j k xs ys p q =

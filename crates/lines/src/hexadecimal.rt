@@ -1,5 +1,5 @@
 // Bytes in capital hexadecimal, with a space between two bytes.
-ghost use Rattle.std.specs.Prelude.{◌+◌, ◌-◌, ◌*◌, ◌≤◌, ◌<◌, ◌≡◌, [], length, take, drop};
+ghost use Rattle.std.specs.Prelude.{◌+◌, ◌*◌, ◌≤◌, ◌<◌, ◌≡◌, [], length};
 ghost use Rattle.std.proofs.lemmas.List.Edits.{sets};
 ghost use Rattle.lines.specs.Lines.{digit, hex_byte, hex_more};
 ghost use Rattle.lines.specs.Puts.{PutAt};
@@ -25,19 +25,16 @@ pub fn put_byte(line: &mut [u8], at: usize, byte: u8)
     line[at + 1] = code(byte % 16);
 }
 
-// Puts the bytes from index `from` up to `count`, a space before each, and a newline; answers the index past
-// it.
-pub fn put_more(line: &mut [u8], at: usize, bytes: &[u8], from: usize, count: usize) -> usize
-    requires { (from ≤ count) × (count ≤ length bytes.now) × (at + 3 * (count - from) < length line.old) }
-    ensures { PutAt line.old line.new at result (hex_more (drop from (take count bytes.now))) }
+// Puts bytes, a space before each, and a newline; answers the index past it.
+pub fn put_more(line: &mut [u8], at: usize, bytes: &[u8]) -> usize
+    requires { at + 3 * length bytes.now < length line.old }
+    ensures { PutAt line.old line.new at result (hex_more bytes.now) }
 {
     let mut next = at;
-    let mut k = from;
-    while k < count {
+    for byte in bytes {
         line[next] = b' ';
-        put_byte(line, next + 1, bytes[k]);
+        put_byte(line, next + 1, *byte);
         next += 3;
-        k += 1;
     }
     line[next] = b'\n';
     next + 1

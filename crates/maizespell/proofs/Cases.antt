@@ -55,7 +55,7 @@ module _ (bytes : List ℕ) where
   unfolding line_of read_line
   line_refused n p h e = rw (le-ltb 65536 (length bytes) h, e)
 
-  pub line_good : (x : JobRead) (v m : ℕ) → length bytes ≤ 65536 → ReadGood bytes x → v ≡ vertices (grid_of x.head.grid) → m ≡ largest_in x.layers.least
+  pub line_good : (x : JobRead) (v m : ℕ) → length bytes ≤ 65536 → ReadGood bytes x → v ≡ vertices (grid_of x.head.grid) → m ≡ largest_in x.layers
       → line_of bytes ≡ good_line bytes v m
   unfolding line_of read_line
   line_good x v m h read ev em =

@@ -11,13 +11,8 @@ pub fn read_full<R: Read>(reader: &mut R, buf: &mut [u8]) -> usize
     let mut done = 0;
     while done < buf.len() {
         match reader.read(&mut buf[done..]) {
-            Ok(count) => {
-                if count == 0 {
-                    break;
-                }
-                done += count;
-            }
-            Err(_) => break,
+            Ok(0) | Err(_) => break,
+            Ok(count) => done += count,
         }
     }
     done

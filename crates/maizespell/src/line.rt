@@ -4,7 +4,7 @@ ghost use Rattle.lines.specs.Written.{Written};
 ghost use Rattle.maizespell.specs.Line.{routed_line, good_line, line_of};
 
 use lines::{put_hex_line, put_refused_line, put_too_large};
-use occupants::reached::Reached;
+use occupants::occupant::Occupant;
 use reader::layers::largest_least;
 use reader::whole::read_job;
 use router::routing_call::maizespell_routing;
@@ -24,7 +24,7 @@ fn routed_line(bytes: &[u8], line: &mut [u8]) -> usize
     if routed.refusal != 0 {
         return put_refused_line(line, routed.refusal, routed.place);
     }
-    put_hex_line(line, &plan, routed.bytes)
+    put_hex_line(line, &plan[..routed.bytes])
 }
 
 // A good job is routed if it has at most 256 vertices and no M above 7.
@@ -50,16 +50,14 @@ pub fn line_of(bytes: &[u8], line: &mut [u8]) -> usize
     if 65536 < bytes.len() {
         return put_too_large(line);
     }
-    let mut occupants = [0u8; 16384];
-    let read = read_job(bytes, &mut occupants);
-    let reached = read.reached;
-    match reached {
-        Reached::Refused(refusal, place) => put_refused_line(line, refusal, place),
-        Reached::At(_end) => good_line(
+    let mut occupants = [Occupant::Free; 16384];
+    match read_job(bytes, &mut occupants) {
+        Ok(read) => good_line(
             bytes,
             line,
             read.head.grid.vertices(),
             largest_least(read.layers),
         ),
+        Err(refused) => put_refused_line(line, refused.refusal.number(), refused.place),
     }
 }

@@ -9,45 +9,40 @@ mod line;
 use input::read_full;
 use line::line_of;
 use std::env::{Env, FillError};
+use std::io;
 use std::io::Write;
 
 // Whether the program was called with an argument.
 fn has_argument<R: Env>(rt: &R) -> bool {
     let mut first = [0u8; 1];
-    match rt.arg(1, &mut first) {
-        Err(FillError::NotPresent) => false,
-        _ => true,
-    }
+    !matches!(rt.arg(1, &mut first), Err(FillError::NotPresent))
 }
 
-// Writes all of the text; whether it was written.
-fn write_whole<W: Write>(writer: &mut W, text: &[u8]) -> bool {
-    match writer.write_all(text) {
-        Ok(()) => true,
-        Err(_) => false,
-    }
-}
-
-// The line of the job on standard input; whether all of it was written.
-fn write_line(rt: &HostRuntime) -> bool {
+// The line of the job on standard input, written whole or not.
+fn write_line(rt: &HostRuntime) -> io::Result<()> {
     let mut bytes = [0u8; 65537];
     let count = read_full(&mut rt.reader(), &mut bytes);
     let mut line = [0u8; 196609];
     let put = line_of(&bytes[..count], &mut line);
-    write_whole(&mut rt.stdout(), &line[..put])
+    rt.stdout().write_all(&line[..put])
+}
+
+// What went wrong; where that cannot be told either, nothing is left to do.
+fn tell(rt: &HostRuntime, text: &[u8]) {
+    let _ = rt.stderr().write_all(text);
 }
 
 fn main(rt: HostRuntime) {
     if has_argument(&rt) {
-        write_whole(
-            &mut rt.stderr(),
+        tell(
+            &rt,
             b"maizespell: takes no arguments, and a job on standard input: maizespell < JOB\n",
         );
         return;
     }
-    if !write_line(&rt) {
-        write_whole(
-            &mut rt.stderr(),
+    if write_line(&rt).is_err() {
+        tell(
+            &rt,
             b"maizespell: the line could not be written to standard output\n",
         );
     }

@@ -1,11 +1,12 @@
 -- The metal at first, laid net by net.
---     metal_to                                           the pins of the first nets, and nothing of the
---                                                        others
---     metal_none, metal_all                              of no net, and of all
---     metal_more, metal_known                            of one more, which has its list
---     PinsLaid, pins_begun, _here, _asked, _on, _done    the loop that lays them
---     number_below                                       a net's number is at most 255
-use Prim.Native.Nat.{ℕ, zero, suc, ◌+◌, ◌-◌, ◌≤◌, ◌<◌}
+--     metal_to               the pins of the first nets, and nothing of the others
+--     metal_none, metal_all  of no net, and of all
+--     metal_more, metal_known
+--                            of one more, which has its list
+--     PinsLaid, pins_begun, pins_here, pins_few, pins_asked, pins_on, pins_done
+--                            the loop that lays them
+--     number_below           a net's number is at most 255
+use Prim.Native.Nat.{ℕ, zero, suc, ◌+◌, ◌≤◌, ◌<◌}
 use mathlib.Core.Path.{◌≡◌, refl, sym, ap, ◌∙◌}
 use mathlib.Core.List.{List, [], ◌∷◌, ◌++◌, map, append_assoc}
 use native.Mathlib.Omega.{arith}
@@ -82,7 +83,7 @@ all_before before after split none = omega (arith, ap (λ (l : List Net). length
 -- ---- the loop
 
 -- the pins of the nets before are laid; a net's number is how many are
-pub record PinsLaid (bytes : List ℕ) (g : Grid) (found : List ℕ) (held pins : List ℕ) (at net left : ℕ) : Type 0 where
+pub record PinsLaid (bytes : List ℕ) (g : Grid) (found : List ℕ) (held pins : List ℕ) (at net count : ℕ) : Type 0 where
   pub job : Job
   pub read : read_job bytes ≡ good job
   pub grid : job.grid ≡ g
@@ -90,7 +91,7 @@ pub record PinsLaid (bytes : List ℕ) (g : Grid) (found : List ℕ) (held pins 
   pub after : List Net
   pub nets : job.nets ≡ before ++ after
   pub number : length before ≡ net
-  pub rest : length after ≡ left
+  pub rest : net + length after ≡ count
   pub position : net_at job (length before) ≡ at
   pub sixteen : length pins ≡ 16
   pub room : vertices g ≤ length found
@@ -109,7 +110,7 @@ pins_begun {g = g} {found = found} held long sixteen =
       after = held.job.nets;
       nets = refl;
       number = refl;
-      rest = held.nets;
+      rest = omega (arith, held.nets);
       position = first_net held.job ∙ held.from;
       sixteen = sixteen;
       room = long;
@@ -117,19 +118,19 @@ pins_begun {g = g} {found = found} held long sixteen =
       codes = λ bare. codes_bare (grid_of g) _ found (metal_none (grid_of g) held.job.nets) bare;
     }
 
-module _ {bytes : List ℕ} {g : Grid} {found held pins : List ℕ} {at net left : ℕ} (so_far : PinsLaid bytes g found held pins at net left) where
+module _ {bytes : List ℕ} {g : Grid} {found held pins : List ℕ} {at net count : ℕ} (so_far : PinsLaid bytes g found held pins at net count) where
   -- a net's number is at most 255
-  pub number_below : 0 < left → net < 255
+  pub number_below : net < count → net < 255
   number_below some =
       let all = (rules_hold bytes so_far.job so_far.read).nets in
       omega (arith, all, ap (λ (l : List Net). length l) so_far.nets, length-append so_far.before so_far.after, so_far.number, so_far.rest)
 
-  module _ (some : 0 < left) where
+  module _ (some : net < count) where
     -- the net at hand, and those after it
     pub next : (n : Net) × (others : List Net) × (so_far.after ≡ n ∷ others)
     next = by so_far.after so_far.rest
       where
-        by : (l : List Net) → length l ≡ left → (n : Net) × (others : List Net) × (l ≡ n ∷ others)
+        by : (l : List Net) → net + length l ≡ count → (n : Net) × (others : List Net) × (l ≡ n ∷ others)
         by [] e = absurd (omega (arith, some, e))
         by (n ∷ others) e = (n, others, refl)
 
@@ -142,19 +143,19 @@ module _ {bytes : List ℕ} {g : Grid} {found held pins : List ℕ} {at net left
     pins_here =
         net_held so_far.job so_far.before next.0 next.1 so_far.read split so_far.sixteen so_far.grid so_far.position
 
-    -- its pins may be laid
+    -- it has at most sixteen pins
+    pub pins_few : {loaded : NetLoaded} → loaded ≡ net_loaded (bits_of bytes) at → loaded.pins ≤ 16
+    pins_few isLoaded = rw isLoaded pins_here.few
+
+    -- they may be laid
     pub pins_asked : {loaded : NetLoaded} {pins' : List ℕ} → loaded ≡ net_loaded (bits_of bytes) at → pins' ≡ pins_loaded (bits_of bytes) g at pins
-        → (loaded.pins ≤ 16) × (loaded.pins ≤ length pins') × All (λ v. v < length held) (take loaded.pins pins')
+        → All (λ v. v < length held) (take loaded.pins pins')
     pins_asked isLoaded isPins =
-        rw (isPins, isLoaded, pins_here.list) (
-          pins_here.few,
-          omega (arith, pins_here.few, pins_here.sixteen),
-          all_below_lem (omega (arith, so_far.room, so_far.kept.size)) (pins_of g next.0) pins_here.below,
-        )
+        rw (isPins, isLoaded, pins_here.list) (all_below_lem (omega (arith, so_far.room, so_far.kept.size)) (pins_of g next.0) pins_here.below)
 
     -- its pins are laid
     pub pins_on : {loaded : NetLoaded} {pins' held' : List ℕ} → loaded ≡ net_loaded (bits_of bytes) at → pins' ≡ pins_loaded (bits_of bytes) g at pins
-        → held' ≡ lay_all (net + 1) (take loaded.pins pins') held → PinsLaid bytes g found held' pins' loaded.next (net + 1) (left - 1)
+        → held' ≡ lay_all (net + 1) (take loaded.pins pins') held → PinsLaid bytes g found held' pins' loaded.next (net + 1) count
     pins_on {loaded} {pins'} {held'} isLoaded isPins is_held =
         record {
           job = so_far.job;
@@ -193,7 +194,7 @@ module _ {bytes : List ℕ} {g : Grid} {found held pins : List ℕ} {at net left
         long = omega (arith, so_far.room, so_far.kept.size)
 
   -- all are laid
-  pub pins_done : left ≤ 0 → (j : Job) → read_job bytes ≡ good j → Bare (vertices g) found → Codes g (metal_at_first j) held
+  pub pins_done : count ≤ net → (j : Job) → read_job bytes ≡ good j → Bare (vertices g) found → Codes g (metal_at_first j) held
   unfolding metal_at_first
   pins_done none j read bare =
       let same : so_far.job ≡ j = cc so_far.read in

@@ -6,13 +6,13 @@
 --     zeroed_only                     where the need is zero and the rest as found, the slice is the one that
 --                                     was found, made zero
 --     zeroed_kept                     made zero, it does not matter what the need held
---     zeroed-more                     made zero with one more
-use Prim.Native.Nat.{ℕ, zero, suc, ◌+◌, ◌-◌, ◌≤◌, ◌<◌}
+--     filled                          filled with zeros, it is made zero
+use Prim.Native.Nat.{ℕ, ◌+◌, ◌-◌, ◌≤◌, ◌<◌}
 use mathlib.Core.Path.{◌≡◌, refl, sym, ap, ◌∙◌}
-use mathlib.Core.List.{List, ◌∷◌, ◌++◌}
+use mathlib.Core.List.{List, ◌++◌}
 use native.Mathlib.Omega.{arith}
 use lib.ListN.{length, get_or, set, take, drop, replicate, length-append, take-append-drop, length-drop, length-set, length-replicate, get_or-replicate, get_or-append}
-use lib.Seq.{length-take-le, drop-cons, set_at, drop_at, drop-set-lt, get_or-take, get_or-drop, ext_get_or}
+use lib.Seq.{length-take-le, drop_at, drop-set-lt, get_or-take, get_or-drop, ext_get_or}
 use Rattle.metal.specs.Codes.{Beyond, Bare}
 use Rattle.job.specs.Slices.{zeroed}
 
@@ -86,13 +86,7 @@ pub zeroed_kept : {n : ℕ} {held found : List ℕ} → Beyond n held found → 
 unfolding zeroed
 zeroed_kept {n} kept = ap (λ (xs : List ℕ). replicate n 0 ++ xs) kept.rest
 
--- zeros with one more at their end
-zeros_more : (n : ℕ) (xs : List ℕ) → replicate n 0 ++ (0 ∷ xs) ≡ 0 ∷ (replicate n 0 ++ xs)
-zeros_more zero xs = refl
-zeros_more (suc n) xs = ap (λ (ys : List ℕ). 0 ∷ ys) (zeros_more n xs)
-
--- made zero with one more
-pub zeroed-more : (n : ℕ) (xs : List ℕ) → n < length xs → set (zeroed n xs) n 0 ≡ zeroed (suc n) xs
+-- filled with zeros up to n, it is made zero
+pub filled : {n : ℕ} {zeros : List ℕ} (found : List ℕ) → n ≤ length found → zeros ≡ replicate (length (take n found)) 0 → zeros ++ drop n found ≡ zeroed n found
 unfolding zeroed
-zeroed-more n xs h =
-    rw (drop-cons xs n 0 h) (set_at (replicate n 0) (get_or xs n 0) (drop (suc n) xs) 0 n (length-replicate n 0) ∙ zeros_more n (drop (suc n) xs))
+filled {n} found h is = rw (is, length-take-le n found h) refl

@@ -1,18 +1,20 @@
 -- Turns of the loops that store into a slice.
---     Zeroing, zeroing_begun, _on, _done                  making entries zero
 --     Putting, putting_begun, _on, _past, _done           putting obstacles in
 --     Running, running_begun, _next, _on, _done           laying a run
 --     Laying, laying_begun, _below, _on, _done            laying pins
 use Prim.Native.Nat.{ℕ, suc, ◌+◌, ◌-◌, ◌≤◌, ◌<◌}
 use mathlib.Core.Path.{◌≡◌, refl, sym, ap, ◌∙◌}
 use mathlib.Core.List.{List}
+use mathlib.Core.Bool.{true, false}
 use native.Mathlib.Numerals.{add-one}
 use native.Mathlib.Omega.{arith}
-use lib.ListN.{length, get_or, set, take, drop, length-set, drop_of_length-le}
-use lib.Seq.{length-take-le, drop-cons, get_or-take}
-use borrow.Author.Tests.{eq-eqb, ne_eqb}
+use lib.ListN.{length, get_or, set, drop, length-set, drop_of_length-le}
+use lib.Seq.{drop-cons}
 use Rattle.job.specs.Lists.{All}
 use Rattle.job.specs.Grid.{Grid, vertices, stride_of}
+use Rattle.occupants.specs.Occupants.{is_obstacle}
+use Rattle.occupants.specs.declared.occupant.Occupant.{Occupant}
+use Rattle.occupants.specs.declared.occupant.Occupant.TheVariants.{Free}
 use Rattle.rules.specs.Tracks.{layer_of, entered}
 use Rattle.rules.specs.Segments.{Direction}
 use Rattle.rules.specs.Overheads.{toward}
@@ -20,73 +22,42 @@ use Rattle.rules.specs.Structs.{room_toward, next_on}
 use Rattle.rules.proofs.Rooms.{next_toward, Onward, onward, room_enters}
 use Rattle.rules.proofs.Standing.{all_at}
 use Rattle.metal.specs.Codes.{laid_code, lay_all, from_entered, beyond, with_obstacles}
-use Rattle.job.specs.Slices.{zeroed}
-use Rattle.metal.proofs.Slices.{zeroed-more}
-
--- ---- making entries zero
-
--- so far so many are zero
-pub record Zeroing (count : ℕ) (found : List ℕ) (done : ℕ) (held : List ℕ) : Type 0 where
-  pub room : count ≤ length found
-  pub within : done ≤ count
-  pub size : length held ≡ length found
-  pub zeros : held ≡ zeroed done found
-
--- none is
-pub zeroing_begun : (count : ℕ) (found : List ℕ) → count ≤ length found → Zeroing count found 0 found
-unfolding zeroed
-zeroing_begun count found h = record { room = h; within = omega arith; size = refl; zeros = refl }
-
-module _ {count done : ℕ} {found held : List ℕ} (so_far : Zeroing count found done held) where
-  -- one more is made zero
-  pub zeroing_on : done < count → Zeroing count found (done + 1) (set held done 0)
-  zeroing_on h =
-      record {
-        room = so_far.room;
-        within = omega arith;
-        size = length-set held done 0 ∙ so_far.size;
-        zeros = rw (add-one, so_far.zeros) (zeroed-more done found (omega arith));
-      }
-
-  -- all are
-  pub zeroing_done : count ≤ done → held ≡ zeroed count found
-  zeroing_done h = let all : count ≡ done = omega arith in rw all so_far.zeros
 
 -- ---- putting obstacles in
 
 -- so far the obstacles of so many vertices are put in
-pub record Putting (occupants : List ℕ) (count : ℕ) (found : List ℕ) (done : ℕ) (held : List ℕ) : Type 0 where
+pub record Putting (occupants : List Occupant) (count : ℕ) (found : List ℕ) (done : ℕ) (held : List ℕ) : Type 0 where
   pub room : count ≤ length found
   pub within : done ≤ count
   pub size : length held ≡ length found
   pub put : held ≡ with_obstacles occupants done found
 
 -- none is
-pub putting_begun : (occupants : List ℕ) (count : ℕ) (found : List ℕ) → count ≤ length found → Putting occupants count found 0 found
+pub putting_begun : (occupants : List Occupant) (count : ℕ) (found : List ℕ) → count ≤ length found → Putting occupants count found 0 found
 unfolding with_obstacles
 putting_begun occupants count found h = record { room = h; within = omega arith; size = refl; put = refl }
 
-module _ {occupants : List ℕ} {count done : ℕ} {found held : List ℕ} (so_far : Putting occupants count found done held) where
+module _ {occupants : List Occupant} {count done : ℕ} {found held : List ℕ} (so_far : Putting occupants count found done held) where
   -- a vertex with an obstacle's occupant
-  pub putting_on : done < count → get_or occupants done 0 ≡ 1 → Putting occupants count found (done + 1) (set held done 257)
+  pub putting_on : done < count → is_obstacle (get_or occupants done Free) ≡ true → Putting occupants count found (done + 1) (set held done 257)
   unfolding with_obstacles
   putting_on h e =
       record {
         room = so_far.room;
         within = omega arith;
         size = length-set held done 257 ∙ so_far.size;
-        put = rw (add-one, so_far.put, eq-eqb (get_or occupants done 0) 1 e) refl;
+        put = rw (add-one, so_far.put, e) refl;
       }
 
   -- a vertex with another occupant
-  pub putting_past : done < count → (get_or occupants done 0 ≡ 1 → ⊥) → Putting occupants count found (done + 1) held
+  pub putting_past : done < count → is_obstacle (get_or occupants done Free) ≡ false → Putting occupants count found (done + 1) held
   unfolding with_obstacles
-  putting_past h apart =
+  putting_past h e =
       record {
         room = so_far.room;
         within = omega arith;
         size = so_far.size;
-        put = rw (add-one, so_far.put, ne_eqb (get_or occupants done 0) 1 apart) refl;
+        put = rw (add-one, so_far.put, e) refl;
       }
 
   -- all are
@@ -152,41 +123,33 @@ module _ {g : Grid} {d : Direction} {net count v : ℕ} {found : List ℕ} {stri
 -- ---- laying pins
 
 -- so many pins are laid, and laying the rest gives all
-pub record Laying (net count : ℕ) (pins found : List ℕ) (done : ℕ) (held : List ℕ) : Type 0 where
-  pub room : count ≤ length pins
-  pub below : All (λ v. v < length found) (take count pins)
+pub record Laying (net : ℕ) (pins found : List ℕ) (done : ℕ) (held : List ℕ) : Type 0 where
+  pub below : All (λ v. v < length found) pins
   pub size : length held ≡ length found
-  pub laid : lay_all net (take count pins) found ≡ lay_all net (drop done (take count pins)) held
+  pub laid : lay_all net pins found ≡ lay_all net (drop done pins) held
 
-module _ {net count : ℕ} {pins found : List ℕ} where
+module _ {net : ℕ} {pins found : List ℕ} where
   -- none is
-  pub laying_begun : count ≤ length pins → All (λ v. v < length found) (take count pins) → Laying net count pins found 0 found
-  laying_begun room below = record { room = room; below = below; size = refl; laid = refl }
+  pub laying_begun : All (λ v. v < length found) pins → Laying net pins found 0 found
+  laying_begun below = record { below = below; size = refl; laid = refl }
 
-  module _ {done : ℕ} {held : List ℕ} (so_far : Laying net count pins found done held) where
-    -- so many are to be laid
-    many : length (take count pins) ≡ count
-    many = length-take-le count pins so_far.room
-
+  module _ {done : ℕ} {held : List ℕ} (so_far : Laying net pins found done held) where
     -- the next pin is a vertex of the map
-    pub laying_below : done < count → get_or pins done 0 < length held
-    laying_below h =
-        let at = all_at (λ v. v < length found) (take count pins) done 0 so_far.below (omega (arith, h, many)) in
-        omega (arith, at, get_or-take count pins done 0 h, so_far.size)
+    pub laying_below : done < length pins → get_or pins done 0 < length held
+    laying_below h = omega (arith, all_at (λ v. v < length found) pins done 0 so_far.below h, so_far.size)
 
     -- one more is laid
-    pub laying_on : {after : List ℕ} → done < count → after ≡ set held (get_or pins done 0) (laid_code net (get_or held (get_or pins done 0) 0))
-        → Laying net count pins found (done + 1) after
+    pub laying_on : {after : List ℕ} → done < length pins → after ≡ set held (get_or pins done 0) (laid_code net (get_or held (get_or pins done 0) 0))
+        → Laying net pins found (done + 1) after
     unfolding lay_all
     laying_on h is =
         record {
-          room = so_far.room;
           below = so_far.below;
           size = rw is (length-set held (get_or pins done 0) _ ∙ so_far.size);
-          laid = so_far.laid ∙ rw (add-one, is, drop-cons (take count pins) done 0 (omega (arith, h, many)), get_or-take count pins done 0 h) refl;
+          laid = so_far.laid ∙ rw (add-one, is, drop-cons pins done 0 h) refl;
         }
 
     -- all are
-    pub laying_done : count ≤ done → held ≡ lay_all net (take count pins) found
+    pub laying_done : length pins ≤ done → held ≡ lay_all net pins found
     unfolding lay_all
-    laying_done h = sym (so_far.laid ∙ rw (drop_of_length-le (take count pins) {i = done} (omega (arith, h, many))) refl)
+    laying_done h = sym (so_far.laid ∙ rw (drop_of_length-le pins {i = done} h) refl)

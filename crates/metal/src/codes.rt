@@ -7,14 +7,15 @@ ghost use Rattle.job.specs.declared.grid.Grid.{Grid as GridStruct};
 ghost use Rattle.rules.specs.Structs.{direction_of, place_of, EndOn};
 ghost use Rattle.metal.specs.Codes.{laid_code, lay_all, beyond, extended, with_obstacles};
 
-use bits::part::least;
 use job::grid::Grid;
-use rules::end::{End, end_on};
+use occupants::occupant::Occupant;
+use rules::end::End;
 use rules::overhead::Extension;
 use rules::segment::{heading_of, steps_of};
 use rules::step::Place;
 use rules::track::{next_toward, track_of, vertex_by};
 
+// Numbers, since C reads the map.
 const SEVERAL: u16 = 256;
 
 const OBSTACLE: u16 = 257;
@@ -42,7 +43,7 @@ fn lay_run(map: &mut [u16], stride: usize, end: End, count: usize, net: u16)
 {
     let toward = end.toward;
     let mut last = end.vertex;
-    for _count in 0..least(count, end.room) {
+    for _count in 0..count.min(end.room) {
         last = next_toward(stride, toward, last);
         lay(map, last, net);
     }
@@ -57,19 +58,19 @@ pub fn lay_extension(map: &mut [u16], grid: Grid, place: Place, extension: Exten
     let toward = heading_of(segment);
     let steps = steps_of(segment);
     let track = track_of(grid, vertex_by(grid, place.vertex));
-    let leaving = end_on(track, place.vertex, toward, steps, 0);
+    let leaving = End::leaving(track, place.vertex, toward);
     lay_run(map, track.stride, leaving, extension.leaving, net);
-    let starting = end_on(track, place.vertex, toward, steps, 1);
+    let starting = End::starting(track, place.vertex, toward, steps);
     lay_run(map, track.stride, starting, extension.starting, net);
 }
 
 // Puts the obstacles into the first vertices.
-pub fn put_obstacles(map: &mut [u16], occupants: &[u8; 16384], count: usize)
+pub fn put_obstacles(map: &mut [u16], occupants: &[Occupant; 16384], count: usize)
     requires { (count ≤ 16384) × (count ≤ length map.old) }
     ensures { map.new ≡ with_obstacles occupants.now count map.old }
 {
-    for v in 0..count {
-        if occupants[v] == 1 {
+    for (v, &occupant) in occupants[..count].iter().enumerate() {
+        if occupant == Occupant::Obstacle {
             map[v] = OBSTACLE;
         }
     }

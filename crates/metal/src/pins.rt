@@ -1,5 +1,5 @@
 // The pins of all nets, which are metal of their net from the start.
-ghost use Rattle.std.specs.Prelude.{◌≡◌, ◌<◌, ◌≤◌, length, take};
+ghost use Rattle.std.specs.Prelude.{◌≡◌, ◌<◌, ◌≤◌, length};
 ghost use Rattle.job.specs.Lists.{All};
 ghost use Rattle.job.specs.Grid.{vertices};
 ghost use Rattle.job.specs.Job.{Job};
@@ -14,12 +14,12 @@ use job::grid::Grid;
 use reader::load::load_net;
 
 // Lays a net on its pins.
-pub fn lay_pins(map: &mut [u16], pins: &[usize; 16], count: usize, net: u16)
-    requires { (count ≤ 16) × (count ≤ length pins.now) × (All (λ v. v < length map.old) (take count pins.now)) }
-    ensures { map.new ≡ lay_all net (take count pins.now) map.old }
+pub fn lay_pins(map: &mut [u16], pins: &[usize], net: u16)
+    requires { All (λ v. v < length map.old) pins.now }
+    ensures { map.new ≡ lay_all net pins.now map.old }
 {
-    for pin in 0..count {
-        lay(map, pins[pin], net);
+    for &pin in pins {
+        lay(map, pin, net);
     }
 }
 
@@ -33,13 +33,9 @@ pub fn lay_all_pins(s: &[u8], grid: Grid, nets: usize, from: usize, map: &mut [u
     let mut pins: [usize; 16] = [0; 16];
     let mut boxes: [u8; 90] = [0; 90];
     let mut at = from;
-    let mut net: u16 = 0;
-    let mut left = nets;
-    while 0 < left {
+    for before in 0..nets {
         let loaded = load_net(s, grid, at, &mut pins, &mut boxes);
-        net += 1;
-        lay_pins(map, &pins, loaded.pins, net);
+        lay_pins(map, &pins[..loaded.pins], (before + 1) as u16);
         at = loaded.next;
-        left -= 1;
     }
 }

@@ -3,4 +3,4 @@
 
 pub mod nets;
 pub mod obstacles;
-pub mod reached;
+pub mod occupant;

@@ -2,39 +2,39 @@
 ghost use Rattle.std.specs.Prelude.{◌≡◌, ◌<◌, ◌≤◌, ◌^◌, ◌+◌};
 ghost use Rattle.bits.specs.Bits.{bits_of};
 ghost use Rattle.job.specs.Reading.{good_span, good_box, read_box};
+ghost use Rattle.job.specs.Refusals.{read_of};
 ghost use Rattle.job.specs.Structs.{Sized, grid_of, box_of};
 ghost use Rattle.occupants.specs.Structs.{many_reached};
 ghost use Rattle.occupants.specs.Occupants.{answer_of, occupants_of, pin_from, pins_from, boxes_from, net_from, nets_from};
 
-use crate::obstacles::{OBSTACLE, PIN};
-use crate::reached::Reached;
+use crate::occupant::Occupant;
 use job::grid::Grid;
-use job::groups::{Box, BoxGroup, NetGroup, Span, VertexGroup, box_group, net_group, vertex_group};
+use job::groups::{Box, Span, box_group, net_group, vertex_group};
+use job::refusal::{Refusal, Refused};
 
 // A pin is held against the obstacles and the earlier pins by its vertex's occupant, and put there.
-pub fn read_pin(s: &[u8], grid: Grid, at: usize, occupants: &mut [u8; 16384]) -> Reached
+pub fn read_pin(
+    s: &[u8],
+    grid: Grid,
+    at: usize,
+    occupants: &mut [Occupant; 16384],
+) -> Result<usize, Refused>
     requires { (Sized grid) × (at < 2 ^ 32) }
-    ensures answer { result ≡ answer_of (pin_from (bits_of s.now) (grid_of grid) at occupants.old) }
+    ensures answer { read_of result ≡ answer_of (pin_from (bits_of s.now) (grid_of grid) at occupants.old) }
     ensures occupants { occupants.new ≡ occupants_of (pin_from (bits_of s.now) (grid_of grid) at occupants.old) }
 {
-    let VertexGroup::Whole(pin) = vertex_group(s, at) else {
-        return Reached::Refused(2, at);
-    };
+    let pin = vertex_group(s, at).ok_or(Refusal::Cut.at(at))?;
     if !grid.inside(pin) {
-        return Reached::Refused(8, at);
+        return Err(Refusal::Pin.at(at));
     }
     let vertex = grid.number(pin);
-    let occupant = occupants[vertex];
-    let blocked = OBSTACLE;
-    if occupant == blocked {
-        return Reached::Refused(8, at);
+    match occupants[vertex] {
+        Occupant::Obstacle => return Err(Refusal::Pin.at(at)),
+        Occupant::Pin => return Err(Refusal::EarlierPin.at(at)),
+        Occupant::Free => {}
     }
-    let earlier = PIN;
-    if occupant == earlier {
-        return Reached::Refused(9, at);
-    }
-    occupants[vertex] = PIN;
-    Reached::At(at + 19)
+    occupants[vertex] = Occupant::Pin;
+    Ok(at + 19)
 }
 
 pub fn read_pins(
@@ -42,25 +42,17 @@ pub fn read_pins(
     grid: Grid,
     count: usize,
     from: usize,
-    occupants: &mut [u8; 16384],
-) -> Reached
+    occupants: &mut [Occupant; 16384],
+) -> Result<usize, Refused>
     requires { (Sized grid) × (count ≤ 16) × (from < 2 ^ 31) }
-    ensures answer { result ≡ answer_of (pins_from (bits_of s.now) (grid_of grid) count from occupants.old) }
+    ensures answer { read_of result ≡ answer_of (pins_from (bits_of s.now) (grid_of grid) count from occupants.old) }
     ensures occupants { occupants.new ≡ occupants_of (pins_from (bits_of s.now) (grid_of grid) count from occupants.old) }
 {
     let mut at = from;
-    let mut left = count;
-    while 0 < left {
-        let read = read_pin(s, grid, at, occupants);
-        match read {
-            Reached::At(next) => {
-                at = next;
-            }
-            Reached::Refused(refusal, place) => return Reached::Refused(refusal, place),
-        }
-        left -= 1;
+    for _pin in 0..count {
+        at = read_pin(s, grid, at, occupants)?;
     }
-    Reached::At(at)
+    Ok(at)
 }
 
 // Whether a span is in order and below a size.
@@ -85,51 +77,41 @@ pub fn good_box(grid: Grid, b: Box) -> bool
     good_span(b.columns, grid.columns)
 }
 
-pub fn read_box(s: &[u8], grid: Grid, at: usize) -> Reached
+pub fn read_box(s: &[u8], grid: Grid, at: usize) -> Result<usize, Refused>
     requires { at < 2 ^ 32 }
-    ensures { result ≡ many_reached (at + 38) (read_box (bits_of s.now) (grid_of grid) 0 at) }
+    ensures { read_of result ≡ many_reached (at + 38) (read_box (bits_of s.now) (grid_of grid) 0 at) }
 {
-    let BoxGroup::Whole(b) = box_group(s, at) else {
-        return Reached::Refused(2, at);
-    };
+    let b = box_group(s, at).ok_or(Refusal::Cut.at(at))?;
     if !good_box(grid, b) {
-        return Reached::Refused(10, at);
+        return Err(Refusal::Box.at(at));
     }
-    Reached::At(at + 38)
+    Ok(at + 38)
 }
 
-pub fn read_boxes(s: &[u8], grid: Grid, count: usize, from: usize) -> Reached
+pub fn read_boxes(s: &[u8], grid: Grid, count: usize, from: usize) -> Result<usize, Refused>
     requires { (count < 16) × (from < 2 ^ 31) }
-    ensures { result ≡ boxes_from (bits_of s.now) (grid_of grid) count from }
+    ensures { read_of result ≡ boxes_from (bits_of s.now) (grid_of grid) count from }
 {
     let mut at = from;
-    let mut left = count;
-    while 0 < left {
-        let read = read_box(s, grid, at);
-        match read {
-            Reached::At(next) => {
-                at = next;
-            }
-            Reached::Refused(refusal, place) => return Reached::Refused(refusal, place),
-        }
-        left -= 1;
+    for _box in 0..count {
+        at = read_box(s, grid, at)?;
     }
-    Reached::At(at)
+    Ok(at)
 }
 
-pub fn read_net(s: &[u8], grid: Grid, at: usize, occupants: &mut [u8; 16384]) -> Reached
+pub fn read_net(
+    s: &[u8],
+    grid: Grid,
+    at: usize,
+    occupants: &mut [Occupant; 16384],
+) -> Result<usize, Refused>
     requires { (Sized grid) × (at < 2 ^ 30) }
-    ensures answer { result ≡ answer_of (net_from (bits_of s.now) (grid_of grid) at occupants.old) }
+    ensures answer { read_of result ≡ answer_of (net_from (bits_of s.now) (grid_of grid) at occupants.old) }
     ensures occupants { occupants.new ≡ occupants_of (net_from (bits_of s.now) (grid_of grid) at occupants.old) }
 {
-    let NetGroup::Whole(net) = net_group(s, at) else {
-        return Reached::Refused(2, at);
-    };
-    let pins = read_pins(s, grid, net.pins, at + 8, occupants);
-    match pins {
-        Reached::At(boxes_at) => read_boxes(s, grid, net.boxes, boxes_at),
-        Reached::Refused(refusal, place) => Reached::Refused(refusal, place),
-    }
+    let net = net_group(s, at).ok_or(Refusal::Cut.at(at))?;
+    let boxes_at = read_pins(s, grid, net.pins, at + 8, occupants)?;
+    read_boxes(s, grid, net.boxes, boxes_at)
 }
 
 pub fn read_nets(
@@ -137,23 +119,15 @@ pub fn read_nets(
     grid: Grid,
     count: usize,
     from: usize,
-    occupants: &mut [u8; 16384],
-) -> Reached
+    occupants: &mut [Occupant; 16384],
+) -> Result<usize, Refused>
     requires { (Sized grid) × (count < 2 ^ 8) × (from < 2 ^ 24) }
-    ensures answer { result ≡ answer_of (nets_from (bits_of s.now) (grid_of grid) count from occupants.old) }
+    ensures answer { read_of result ≡ answer_of (nets_from (bits_of s.now) (grid_of grid) count from occupants.old) }
     ensures occupants { occupants.new ≡ occupants_of (nets_from (bits_of s.now) (grid_of grid) count from occupants.old) }
 {
     let mut at = from;
-    let mut left = count;
-    while 0 < left {
-        let read = read_net(s, grid, at, occupants);
-        match read {
-            Reached::At(next) => {
-                at = next;
-            }
-            Reached::Refused(refusal, place) => return Reached::Refused(refusal, place),
-        }
-        left -= 1;
+    for _net in 0..count {
+        at = read_net(s, grid, at, occupants)?;
     }
-    Reached::At(at)
+    Ok(at)
 }

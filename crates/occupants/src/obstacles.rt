@@ -4,24 +4,15 @@ ghost use Rattle.bits.specs.Bits.{bits_of};
 ghost use Rattle.job.specs.Grid.{inside};
 ghost use Rattle.job.specs.Reading.{read_obstacle, covered};
 ghost use Rattle.job.specs.Lists.{all};
+ghost use Rattle.job.specs.Refusals.{read_of};
 ghost use Rattle.job.specs.Structs.{Small, Sized, grid_of, obstacle_of};
 ghost use Rattle.occupants.specs.Structs.{obstacle_read};
 ghost use Rattle.occupants.specs.Occupants.{RunInside, cover_every, cover_obstacle, obstacles_from, answer_of, occupants_of};
 
-use crate::reached::Reached;
+use crate::occupant::Occupant;
 use job::grid::Grid;
-use job::groups::{Obstacle, ObstacleGroup, obstacle_group};
-
-// The occupant of a vertex: 0 where it is free.
-pub const OBSTACLE: u8 = 1;
-
-pub const PIN: u8 = 2;
-
-#[derive(Clone, Copy)]
-pub enum ObstacleRead {
-    Good(Obstacle),
-    Refused(usize, usize),
-}
+use job::groups::{Obstacle, obstacle_group};
+use job::refusal::{Refusal, Refused};
 
 // Whether all of an obstacle is inside.
 pub fn obstacle_inside(grid: Grid, obstacle: Obstacle) -> bool
@@ -39,34 +30,30 @@ pub fn obstacle_inside(grid: Grid, obstacle: Obstacle) -> bool
     }
 }
 
-pub fn read_obstacle(s: &[u8], grid: Grid, at: usize) -> ObstacleRead
+pub fn read_obstacle(s: &[u8], grid: Grid, at: usize) -> Result<Obstacle, Refused>
     requires { (Small grid) × (at < 2 ^ 32) }
-    ensures { result ≡ obstacle_read (read_obstacle (bits_of s.now) (grid_of grid) 0 at) }
+    ensures { read_of result ≡ obstacle_read (read_obstacle (bits_of s.now) (grid_of grid) 0 at) }
 {
-    let ObstacleGroup::Whole(obstacle) = obstacle_group(s, at) else {
-        return ObstacleRead::Refused(2, at);
-    };
+    let obstacle = obstacle_group(s, at).ok_or(Refusal::Cut.at(at))?;
     if !obstacle_inside(grid, obstacle) {
-        return ObstacleRead::Refused(6, at);
+        return Err(Refusal::Obstacle.at(at));
     }
-    ObstacleRead::Good(obstacle)
+    Ok(obstacle)
 }
 
 // An obstacle covers every stride-th vertex from the first on.
-pub fn cover_run(occupants: &mut [u8; 16384], first: usize, stride: usize, run: usize)
+pub fn cover_run(occupants: &mut [Occupant; 16384], first: usize, stride: usize, run: usize)
     requires { (stride ≤ 256) × (RunInside stride run first) }
     ensures { occupants.new ≡ cover_every stride run first occupants.old }
 {
     let mut at = first;
-    let mut left = run;
-    while 0 < left {
-        occupants[at] = OBSTACLE;
+    for _covered in 0..run {
+        occupants[at] = Occupant::Obstacle;
         at += stride;
-        left -= 1;
     }
 }
 
-pub fn cover_obstacle(occupants: &mut [u8; 16384], grid: Grid, obstacle: Obstacle)
+pub fn cover_obstacle(occupants: &mut [Occupant; 16384], grid: Grid, obstacle: Obstacle)
     requires { (Sized grid) × (1 ≤ obstacle.run) × (T (all (inside (grid_of grid)) (covered (grid_of grid) (obstacle_of obstacle)))) }
     ensures { occupants.new ≡ cover_obstacle (grid_of grid) (obstacle_of obstacle) occupants.old }
 {
@@ -84,22 +71,17 @@ pub fn read_obstacles(
     grid: Grid,
     count: usize,
     from: usize,
-    occupants: &mut [u8; 16384],
-) -> Reached
+    occupants: &mut [Occupant; 16384],
+) -> Result<usize, Refused>
     requires { (Sized grid) × (count < 2 ^ 16) × (from < 2 ^ 16) }
-    ensures answer { result ≡ answer_of (obstacles_from (bits_of s.now) (grid_of grid) count from occupants.old) }
+    ensures answer { read_of result ≡ answer_of (obstacles_from (bits_of s.now) (grid_of grid) count from occupants.old) }
     ensures occupants { occupants.new ≡ occupants_of (obstacles_from (bits_of s.now) (grid_of grid) count from occupants.old) }
 {
     let mut at = from;
-    let mut left = count;
-    while 0 < left {
-        let read = read_obstacle(s, grid, at);
-        match read {
-            ObstacleRead::Good(obstacle) => cover_obstacle(occupants, grid, obstacle),
-            ObstacleRead::Refused(refusal, place) => return Reached::Refused(refusal, place),
-        }
+    for _obstacle in 0..count {
+        let obstacle = read_obstacle(s, grid, at)?;
+        cover_obstacle(occupants, grid, obstacle);
         at += 27;
-        left -= 1;
     }
-    Reached::At(at)
+    Ok(at)
 }

@@ -6,28 +6,28 @@
 --     job_head_refused          a job whose head is refused
 --     PastHead, job_past_head   a job whose head is good
 use Prim.Native.Nat.{ℕ, ◌^◌, ◌≤◌, ◌<◌}
-use mathlib.Core.Path.{◌≡◌, refl, subst⁻¹, ◌∙◌}
+use mathlib.Core.Path.{◌≡◌, sym, ap, ◌∙◌}
 use mathlib.Core.List.{List}
 use mathlib.Core.Bool.{true, false}
 use native.Mathlib.Omega.{arith}
+use Rattle.std.proofs.Common.{Some, None}
 use borrow.Author.Tests.{le-leb, lt-leb}
 use lib.ListN.{length}
 use Rattle.bits.specs.Bits.{bits_of, field, whole}
 use Rattle.bits.proofs.Laws.{bits_of_bits, field_below}
-use Rattle.job.specs.Reading.{Read, refused, good, ◌>>=◌, ◌>>◌, rule, Head, head_at, read_head, read_after_head, read_job}
+use Rattle.job.specs.Reading.{refused, good, ◌>>=◌, ◌>>◌, rule, Head, head_at, read_head, read_after_head, read_job}
 use Rattle.job.specs.Heads.{read_bits}
 use Rattle.job.specs.Structs.{head_group, head_of, head_struct, grid_struct, Small, Sized}
 use Rattle.reader.specs.Structs.{head_read}
 use Rattle.job.specs.declared.groups.Head.{Head as HeadStruct}
-use Rattle.job.specs.declared.groups.HeadGroup.{HeadGroup}
-use Rattle.reader.specs.declared.head.HeadRead.{HeadRead}
 use Rattle.job.proofs.TwoWay.Heads.{head_read_lem}
+use Rattle.job.proofs.Binds.{made_refused, made_good}
 use Rattle.job.proofs.Fields.{first_arm, second_arm}
 
 -- the group is cut: the head is not whole
-pub cut_head : (bytes : List ℕ) → head_group bytes ≡ HeadGroup.Cut → whole (bits_of bytes) 0 80 ≡ false
+pub cut_head : (bytes : List ℕ) → head_group bytes ≡ None → whole (bits_of bytes) 0 80 ≡ false
 unfolding head_group
-cut_head bytes e = second_arm _ _ _ _ e (λ e. let z : ◌≡◌ {A = ℕ} 0 1 = cc in omega arith)
+cut_head bytes e = second_arm _ _ _ _ e (λ e. cc)
 
 -- the head is whole, n is its edition and h what it holds
 pub record WholeHead (bytes : List ℕ) (n : ℕ) (h : HeadStruct) : Type 0 where
@@ -36,12 +36,12 @@ pub record WholeHead (bytes : List ℕ) (n : ℕ) (h : HeadStruct) : Type 0 wher
   pub head : h ≡ head_struct (head_at (bits_of bytes) 0)
 
 -- the group is whole: so is the head, and the group has its numbers
-pub whole_head : (bytes : List ℕ) (n : ℕ) (h : HeadStruct) → head_group bytes ≡ HeadGroup.Whole n h → WholeHead bytes n h
+pub whole_head : (bytes : List ℕ) (n : ℕ) (h : HeadStruct) → head_group bytes ≡ Some (n, h) → WholeHead bytes n h
 unfolding head_group
 whole_head bytes n h e =
-    let arm = first_arm _ _ HeadGroup.Cut (HeadGroup.Whole n h) e (λ e. let z : ◌≡◌ {A = ℕ} 0 1 = cc in omega arith) in
-    let same = arm.1 in
-    record { whole = arm.0; edition = cc; head = cc }
+    let arm = first_arm _ _ None (Some (n, h)) e (λ e. cc) in
+    let same : ◌≡◌ {A = ℕ × HeadStruct} (n, h) (field (bits_of bytes) 0 4, head_struct (head_at (bits_of bytes) 0)) = cc (sym arm.1) in
+    record { whole = arm.0; edition = ap (λ (x : ℕ × HeadStruct). x.0) same; head = ap (λ (x : ℕ × HeadStruct). x.1) same }
 
 -- the grid's numbers lie in their fields' ranges
 pub head_small : (bytes : List ℕ) → Small (grid_struct (head_at (bits_of bytes) 0).grid)
@@ -67,22 +67,11 @@ job_bits_lem : (bytes : List ℕ) → length bytes ≤ 262144 → read_job bytes
 unfolding read_job read_bits rule ◌>>◌
 job_bits_lem bytes h = rw (le-leb (length bytes) 262144 h)
 
--- a head that was read, or refused
-head_refused : (r : Read Head) (n p : ℕ) → head_read r ≡ HeadRead.Refused n p → r ≡ refused n p
-unfolding head_read
-head_refused (refused k q) n p e = cc
-head_refused (good x) n p e = let z : ◌≡◌ {A = ℕ} 0 1 = cc in absurd (omega arith)
-
-head_good : (r : Read Head) (h : HeadStruct) → head_read r ≡ HeadRead.Good h → (x : Head) × (r ≡ good x) × (h ≡ head_struct x)
-unfolding head_read
-head_good (refused k q) h e = let z : ◌≡◌ {A = ℕ} 0 1 = cc in absurd (omega arith)
-head_good (good x) h e = (x, refl, cc)
-
 -- a job whose head is refused
-pub job_head_refused : (bytes : List ℕ) (n p : ℕ) → length bytes ≤ 262144 → head_read (read_head (bits_of bytes)) ≡ HeadRead.Refused n p
+pub job_head_refused : (bytes : List ℕ) {n p : ℕ} → length bytes ≤ 262144 → refused n p ≡ head_read (read_head (bits_of bytes))
     → read_job bytes ≡ refused n p
-unfolding read_bits ◌>>=◌
-job_head_refused bytes n p h e = job_bits_lem bytes h ∙ rw (head_refused _ n p e)
+unfolding read_bits head_read ◌>>=◌
+job_head_refused bytes h e = job_bits_lem bytes h ∙ rw (made_refused head_struct _ e)
 
 -- what is known after a good head: what follows it decides, and its numbers lie in their ranges
 pub record PastHead (bytes : List ℕ) (h : HeadStruct) : Type 0 where
@@ -107,5 +96,6 @@ past_head bytes x small e =
       obstacles = rules.obstacles;
     }
 
-pub job_past_head : (bytes : List ℕ) (h : HeadStruct) → length bytes ≤ 262144 → head_read (read_head (bits_of bytes)) ≡ HeadRead.Good h → PastHead bytes h
-job_past_head bytes h small e = let read = head_good _ h e in subst⁻¹ (PastHead bytes) read.2 (past_head bytes read.0 small read.1)
+pub job_past_head : (bytes : List ℕ) {h : HeadStruct} → length bytes ≤ 262144 → good h ≡ head_read (read_head (bits_of bytes)) → PastHead bytes h
+unfolding head_read
+job_past_head bytes small e = let read = made_good head_struct _ e in rw read.2 (past_head bytes read.0 small read.1)

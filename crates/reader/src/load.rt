@@ -7,7 +7,7 @@ ghost use Rattle.job.specs.Structs.{Small, grid_of, box_of};
 ghost use Rattle.reader.specs.Loading.{pin_numbers, box_numbers, boxes_numbers, NetRoom, net_loaded, pins_loaded, boxes_loaded};
 
 use job::grid::Grid;
-use job::groups::{Box, BoxGroup, NetGroup, VertexGroup, box_group, net_group, vertex_group};
+use job::groups::{Box, box_group, net_group, vertex_group};
 
 // How many pins and boxes were loaded, and the bit after the net.
 #[derive(Clone, Copy)]
@@ -22,15 +22,9 @@ pub fn load_pins(s: &[u8], grid: Grid, count: usize, from: usize, pins: &mut [us
     requires { (Small grid) × (count ≤ 16) × (length s.now ≤ 262144) × (from + 19 * count ≤ 8 * length s.now) }
     ensures { pins.new ≡ sets pins.old 0 (pin_numbers (bits_of s.now) (grid_of grid) count from) }
 {
-    let mut at = from;
-    let mut pin: usize = 0;
-    while pin < count {
-        let VertexGroup::Whole(vertex) = vertex_group(s, at) else {
-            return;
-        };
+    for pin in 0..count {
+        let vertex = vertex_group(s, from + 19 * pin).unwrap();
         pins[pin] = grid.number(vertex);
-        at += 19;
-        pin += 1;
     }
 }
 
@@ -51,17 +45,9 @@ pub fn load_boxes(s: &[u8], count: usize, from: usize, boxes: &mut [u8; 90])
     requires { (count < 16) × (length s.now ≤ 262144) × (from + 38 * count ≤ 8 * length s.now) }
     ensures { boxes.new ≡ sets boxes.old 0 (boxes_numbers (bits_of s.now) count from) }
 {
-    let mut at = from;
-    let mut first: usize = 0;
-    let mut left = count;
-    while 0 < left {
-        let BoxGroup::Whole(b) = box_group(s, at) else {
-            return;
-        };
-        store_box(boxes, first, b);
-        at += 38;
-        first += 6;
-        left -= 1;
+    for place in 0..count {
+        let b = box_group(s, from + 38 * place).unwrap();
+        store_box(boxes, 6 * place, b);
     }
 }
 
@@ -77,13 +63,7 @@ pub fn load_net(
     ensures pins { pins.new ≡ pins_loaded (bits_of s.now) (grid_of grid) at pins.old }
     ensures boxes { boxes.new ≡ boxes_loaded (bits_of s.now) at boxes.old }
 {
-    let NetGroup::Whole(net) = net_group(s, at) else {
-        return NetLoaded {
-            pins: 0,
-            boxes: 0,
-            next: at,
-        };
-    };
+    let net = net_group(s, at).unwrap();
     let boxes_at = at + 8 + 19 * net.pins;
     load_pins(s, grid, net.pins, at + 8, pins);
     load_boxes(s, net.boxes, boxes_at, boxes);

@@ -3,112 +3,74 @@ ghost use Rattle.std.specs.Prelude.{◌≡◌, ◌<◌, ◌≤◌, ◌^◌, leng
 ghost use Rattle.bits.specs.Bits.{bits_of};
 ghost use Rattle.job.specs.Job.{Job};
 ghost use Rattle.job.specs.Good.{all_pins};
-ghost use Rattle.job.specs.Reading.{refused, good, read_after_head, read_job};
+ghost use Rattle.job.specs.Reading.{good, read_after_head, read_job};
+ghost use Rattle.job.specs.Refusals.{read_of};
 ghost use Rattle.job.specs.Structs.{Sized, head_of};
 ghost use Rattle.reader.specs.Structs.{job_read};
 ghost use Rattle.occupants.specs.Occupants.{Bare, Occupants, answer_of, occupants_of, groups_from};
 
-use crate::head::{HeadRead, read_head};
-use crate::layers::{no_layers, read_layers};
+use crate::head::read_head;
+use crate::layers::read_layers;
 use crate::tail::read_tail;
-use job::grid::Grid;
-use job::groups::Head;
-use job::layers::Layers;
+use job::groups::{Head, Layer};
+use job::refusal::{Refusal, Refused};
 use occupants::nets::read_nets;
 use occupants::obstacles::read_obstacles;
-use occupants::reached::Reached;
+use occupants::occupant::Occupant;
 
 // A job has no more bytes.
 const MOST_BYTES: usize = 262144;
 
-// How far reading came, with the head and the layer lines, which are 0 after a refusal.
+// The head and the layer lines of a job, and the bit after its last field.
 #[derive(Clone, Copy)]
 pub struct JobRead {
-    pub reached: Reached,
+    pub end: usize,
     pub head: Head,
-    pub layers: Layers,
-}
-
-pub fn refused_job(refusal: usize, place: usize) -> JobRead
-    ensures { result ≡ job_read (refused refusal place) }
-{
-    let grid = Grid {
-        direction: 0,
-        layers: 0,
-        columns: 0,
-        rows: 0,
-    };
-    let head = Head {
-        grid,
-        guide: 0,
-        short: 0,
-        nets: 0,
-        obstacles: 0,
-    };
-    JobRead {
-        reached: Reached::Refused(refusal, place),
-        head,
-        layers: no_layers(),
-    }
+    pub layers: [Layer; 8],
 }
 
 // Obstacles, nets and tail.
-pub fn read_groups(s: &[u8], head: Head, occupants: &mut [u8; 16384]) -> Reached
+pub fn read_groups(
+    s: &[u8],
+    head: Head,
+    occupants: &mut [Occupant; 16384],
+) -> Result<usize, Refused>
     requires { (length s.now ≤ 262144) × (Sized head.grid) × (head.nets < 2 ^ 8) × (head.obstacles < 2 ^ 16) }
-    ensures answer { result ≡ answer_of (groups_from (bits_of s.now) (head_of head) occupants.old) }
+    ensures answer { read_of result ≡ answer_of (groups_from (bits_of s.now) (head_of head) occupants.old) }
     ensures occupants { occupants.new ≡ occupants_of (groups_from (bits_of s.now) (head_of head) occupants.old) }
 {
     let grid = head.grid;
-    let obstacles = read_obstacles(s, grid, head.obstacles, 80 + 40 * grid.layers, occupants);
-    let Reached::At(nets_at) = obstacles else {
-        return obstacles;
-    };
-    let nets = read_nets(s, grid, head.nets, nets_at, occupants);
-    let Reached::At(end) = nets else {
-        return nets;
-    };
+    let nets_at = read_obstacles(s, grid, head.obstacles, 80 + 40 * grid.layers, occupants)?;
+    let end = read_nets(s, grid, head.nets, nets_at, occupants)?;
     read_tail(s, end)
 }
 
 // Layer lines, obstacles, nets and tail.
-pub fn read_after_head(s: &[u8], head: Head, occupants: &mut [u8; 16384]) -> JobRead
+pub fn read_after_head(
+    s: &[u8],
+    head: Head,
+    occupants: &mut [Occupant; 16384],
+) -> Result<JobRead, Refused>
     requires s_len_bound { (length s.now ≤ 262144) × (Sized head.grid) × (head.nets < 2 ^ 8) × (head.obstacles < 2 ^ 16) }
     requires bare { Bare occupants.old }
-    ensures read { result ≡ job_read (read_after_head (bits_of s.now) (head_of head)) }
+    ensures read { read_of result ≡ job_read (read_after_head (bits_of s.now) (head_of head)) }
     ensures occupants { (j : Job) → read_after_head (bits_of s.now) (head_of head) ≡ good j → Occupants j.grid j.obstacles (all_pins j.nets) occupants.new }
 {
-    let lines = read_layers(s, head.grid.layers);
-    let layers_read = lines.reached;
-    let layers = lines.layers;
-    match layers_read {
-        Reached::At(_) => {
-            let groups = read_groups(s, head, occupants);
-            match groups {
-                Reached::At(end) => JobRead {
-                    reached: Reached::At(end),
-                    head,
-                    layers,
-                },
-                Reached::Refused(refusal, place) => refused_job(refusal, place),
-            }
-        }
-        Reached::Refused(refusal, place) => refused_job(refusal, place),
-    }
+    let layers = read_layers(s, head.grid.layers)?;
+    let end = read_groups(s, head, occupants)?;
+    Ok(JobRead { end, head, layers })
 }
 
 // The job that the bytes hold, or the first rule that they break. The occupants are lent bare, and after a
 // good job they tell obstacles and pins.
-pub fn read_job(s: &[u8], occupants: &mut [u8; 16384]) -> JobRead
+pub fn read_job(s: &[u8], occupants: &mut [Occupant; 16384]) -> Result<JobRead, Refused>
     requires { Bare occupants.old }
-    ensures read { result ≡ job_read (read_job s.now) }
+    ensures read { read_of result ≡ job_read (read_job s.now) }
     ensures occupants { (j : Job) → read_job s.now ≡ good j → Occupants j.grid j.obstacles (all_pins j.nets) occupants.new }
 {
     if MOST_BYTES < s.len() {
-        return refused_job(1, 0);
+        return Err(Refusal::TooManyBytes.at(0));
     }
-    let read = read_head(s);
-    match read {
-        HeadRead::Good(head) => read_after_head(s, head, occupants),
-        HeadRead::Refused(refusal, place) => refused_job(refusal, place),
-    }
+    let head = read_head(s)?;
+    read_after_head(s, head, occupants)
 }

@@ -33,7 +33,8 @@ use Rattle.tree.proofs.Spots.{spot_tree}
 use Rattle.walker.specs.Entering.{Arrays, gone_at}
 use Rattle.walker.specs.Standing.{Stood}
 use Rattle.walker.proofs.Standing.{stood_begun, stood_joined, end_entered}
-use Rattle.replay.specs.Following.{moves_from, Start, read_start, read_cost, Joined, cost_from, join_from}
+use Rattle.replay.specs.Following.{moves_from, read_start, read_cost, Joined, cost_from, join_from}
+use Rattle.replay.specs.declared.start.Start.{Start}
 use Rattle.replay.proofs.Follow.{Follow, both_good, then_assoc, follow_on, follow_read}
 use Rattle.replay.proofs.MovesFollow.{moves_follow}
 

@@ -1,7 +1,7 @@
 -- Past the grid the map is as found.
 --     moves_kept, join_kept, net_kept     while moves, a join, the records of a net are read
 use Prim.Native.Nat.{ℕ, zero, suc, ◌+◌, ◌*◌}
-use mathlib.Core.Path.{◌≡◌, refl, ap}
+use mathlib.Core.Path.{◌≡◌, refl}
 use mathlib.Core.List.{List}
 use mathlib.Core.Bool.{Bool, true, false, cond}
 use lib.Dec.{eqb}
@@ -22,8 +22,8 @@ use Rattle.tree.specs.Spots.{some_unjoined}
 use Rattle.walker.specs.Entering.{Arrays, enter_by, Gone, gone_at, gone_on}
 use Rattle.walker.proofs.Landing.{step_lands}
 use Rattle.walker.proofs.Entering.{enter_kept}
-use Rattle.replay.specs.Following.{Came, came, stopped, and_on, and_read, arrays_of, judged_move, moves_from, Start, read_start, Joined, cost_from, join_from, Ended, by_flag, with_join_counts, net_from}
-use Rattle.replay.specs.Structs.{start_read}
+use Rattle.replay.specs.Following.{Came, came, stopped, and_on, and_read, arrays_of, judged_move, moves_from, read_start, Joined, cost_from, join_from, Ended, by_flag, with_join_counts, net_from}
+use Rattle.replay.specs.declared.start.Start.{Start}
 use Rattle.replay.proofs.Parts.{judged-step}
 use Rattle.replay.proofs.Joining.{cost_arrays, start_bounds}
 
@@ -50,14 +50,14 @@ module _ (bits : List ℕ) (below : AllBelow 2 bits) {t : Tech} (view : View) (n
 
   -- while a join is read
   pub join_kept : (at : ℕ) (arrays : Arrays) → Keeps arrays (join_from bits t view net at arrays)
-  unfolding join_from and_read arrays_of gone_at start_read
+  unfolding join_from and_read arrays_of gone_at
   join_kept at arrays = by (read_start bits t.grid arrays.spots at) refl
     where
       by : (x : Read Start) → read_start bits t.grid arrays.spots at ≡ x → Keeps arrays (and_read arrays x (λ start.
           cost_from bits (at + 39 + 2 * start.moves) (moves_from bits t view net start.moves (at + 39) (gone_at start.vertex) arrays)))
       by (refused n p) e = beyond_refl _ _
       by (good start) e =
-          let bounds = start_bounds bits t.grid arrays.spots at below refl (ap start_read e) in
+          let bounds = start_bounds bits t.grid arrays.spots at below e in
           rw (cost_arrays bits (at + 39 + 2 * start.moves) _) (moves_kept start.moves (at + 39) (gone_at start.vertex) arrays (start_good bounds.0))
 
   -- while the records of a net are read

@@ -13,6 +13,8 @@ use Rattle.job.specs.Grid.{Grid, vertices}
 use Rattle.job.specs.Job.{Net, Job}
 use Rattle.job.specs.Reading.{Read, refused, good, ◌>>=◌, read_job}
 use Rattle.job.specs.Structs.{grid_of}
+use Rattle.job.specs.declared.refusal.Refused.{Refused}
+use Rattle.occupants.specs.declared.occupant.Occupant.{Occupant}
 use Rattle.reader.specs.Loading.{net_loaded, pins_loaded, boxes_loaded}
 use Rattle.reader.specs.declared.load.NetLoaded.{NetLoaded}
 use Rattle.rules.specs.Views.{View, view_of}
@@ -39,21 +41,22 @@ use Rattle.walker.proofs.Metals.{Later, later_none, later_more, later_on}
 use Rattle.walker.proofs.Nets.{Nets, empty, nets_begun, rules, grid, nets_few, hand, own, own_below, own_pins_lem, own_count, first, at_net, one_on, nets_on}
 use Rattle.replay.specs.Following.{Came, arrays_of, Ended, net_from}
 use Rattle.replay.specs.Structs.{IsNet, CountedNet, NetFits, IsNets, CountedNets}
-use Rattle.replay.specs.declared.net.NetRead.{NetRead}
+use Rattle.replay.specs.declared.net.Ended.{Ended as EndedStruct}
 use Rattle.replay.proofs.Follow.{Follow, both_refused, both_good}
 use Rattle.replay.proofs.NetFollow.{NetMeet, net_follow}
 use Rattle.replay.proofs.Kept.{net_kept}
+use Rattle.std.proofs.Common.{Result, Ok, Err}
 
 -- what the code answers of a net is what reading it by the definition comes to
-net_answer : (j : Job) (counts : List ℕ) (r : NetRead) {x : Read Progress} (y : Came Ended) → Follow (NetMeet j counts) x y → IsNet r y
+net_answer : (j : Job) (counts : List ℕ) (r : Result EndedStruct Refused) {x : Read Progress} (y : Came Ended) → Follow (NetMeet j counts) x y → IsNet r y
     → IsNets j.grid r x (arrays_of y).codes
 unfolding IsNet IsNets arrays_of
-net_answer j counts (NetRead.Refused n p) y (both_refused {n = m} {p = q} e f) is =
+net_answer j counts (Err refusal) y (both_refused e f) is =
     let (number, place) = rw f at is in
     e ∙ (λ i. refused (sym number i) (sym place i))
-net_answer j counts (NetRead.Refused n p) y (both_good e f m) is = absurd (rw f at is)
-net_answer j counts (NetRead.Ended totals next) y (both_refused e f) is = absurd (rw f at is)
-net_answer j counts (NetRead.Ended totals next) y (both_good {a = all} e f m) is =
+net_answer j counts (Err refusal) y (both_good e f m) is = absurd (rw f at is)
+net_answer j counts (Ok read) y (both_refused e f) is = absurd (rw f at is)
+net_answer j counts (Ok read) y (both_good {a = all} e f m) is =
     let (totals-same, next_same) = rw f at is in
     rw f (all, e, totals-same ∙ ap (λ (z : Ended). z.totals) m.0, next_same ∙ ap (λ (z : Ended). z.next) m.0, m.1)
 
@@ -95,7 +98,7 @@ unfolding ◌>>=◌ with_entries
 none_before (refused n p) = refl
 none_before (good all) = refl
 
-module _ (bytes : List ℕ) (tech : TechStruct) (occupants found B : List ℕ) (below : AllBelow 2 B) (counts₀ : List ℕ) where
+module _ (bytes : List ℕ) (tech : TechStruct) (occupants : List Occupant) (found B : List ℕ) (below : AllBelow 2 B) (counts₀ : List ℕ) where
   -- so many nets are left: the rest from here gives the whole
   pub record Netting (codes counts pins boxes : List ℕ) (position at : ℕ) (totals : TotalsStruct) (net left : ℕ) : Type 0 where
     pub count : ℕ
@@ -203,7 +206,7 @@ module _ (bytes : List ℕ) (tech : TechStruct) (occupants found B : List ℕ) (
           beyond_trans (subst (λ (g : Grid). Beyond (vertices g) (arrays_of records).codes codes) same_grid
           (net_kept B below view (net + 1) so_far.held.fits.good (take loaded.pins pins') loaded.pins at (totals_of totals) counts _)) so_far.nets.kept
 
-      module _ (r : NetRead) {codes' : List ℕ} (counts' : List ℕ) (is : IsNet r records) (left-codes : codes' ≡ (arrays_of records).codes)
+      module _ (r : Result EndedStruct Refused) {codes' : List ℕ} (counts' : List ℕ) (is : IsNet r records) (left-codes : codes' ≡ (arrays_of records).codes)
           (sums : CountedNet records counts') where
         -- what the code answers of it
         answers : IsNets job.grid r this codes'
@@ -214,8 +217,8 @@ module _ (bytes : List ℕ) (tech : TechStruct) (occupants found B : List ℕ) (
         netting_kept = rw (same_grid, left-codes) kept_on
 
         -- a net that is refused
-        pub netting_refused : {n p : ℕ} → r ≡ NetRead.Refused n p → (j : Job) → read_job bytes ≡ good j
-            → IsNets (grid_of tech.grid) (NetRead.Refused n p) (read_nets B j 0 j.nets (metal_at_first j) no_totals 0) codes'
+        pub netting_refused : {e : Refused} → r ≡ Err e → (j : Job) → read_job bytes ≡ good j
+            → IsNets (grid_of tech.grid) (Err e) (read_nets B j 0 j.nets (metal_at_first j) no_totals 0) codes'
             × CountedNets j (read_nets B j 0 j.nets (metal_at_first j) no_totals 0) counts₀ counts'
         unfolding IsNets CountedNets ◌>>=◌
         netting_refused told j read =
@@ -225,10 +228,10 @@ module _ (bytes : List ℕ) (tech : TechStruct) (occupants found B : List ℕ) (
             rw (← same) (whole, rw whole tt)
 
         -- a net that is read
-        pub netting_on : {more : TotalsStruct} {next : ℕ} → r ≡ NetRead.Ended more next → NetFits (16 * (net + 1) + 16) r
-            → Netting codes' counts' pins' boxes' loaded.next next more (net + 1) (left - 1)
+        pub netting_on : {ended : EndedStruct} → r ≡ Ok ended → NetFits (16 * (net + 1) + 16) r → {others-left : ℕ} → others-left ≡ left - 1
+            → Netting codes' counts' pins' boxes' loaded.next ended.next ended.totals (net + 1) others-left
         unfolding IsNets NetFits read_nets ◌>>=◌
-        netting_on {more} {next} told fits =
+        netting_on told fits one_less =
             let (all, e, totals-same, next_same, coded) = rw told at answers in
             let (own-counts, few) = net_counted job counts records counts' follows sums e in
             let many = one_on bytes tech occupants found so_far.held so_far.nets some isLoaded isPins isBoxes in
@@ -241,7 +244,7 @@ module _ (bytes : List ℕ) (tech : TechStruct) (occupants found B : List ℕ) (
               before = so_far.before ++ ((hand bytes tech occupants found so_far.held so_far.nets some).0 ∷ []);
               after = others;
               metal = all.metal;
-              nets = nets_on bytes tech occupants found so_far.held so_far.nets some isLoaded isPins isBoxes metals coded (rw left-codes kept_on);
+              nets = rw one_less (nets_on bytes tech occupants found so_far.held so_far.nets some isLoaded isPins isBoxes metals coded (rw left-codes kept_on));
               entries = so_far.entries ++ all.entries;
               same =
                   one_net ∙ ap after_this e ∙ regroup so_far.entries all (read_nets B job (suc k) others all.metal all.totals all.at)
@@ -257,7 +260,7 @@ module _ (bytes : List ℕ) (tech : TechStruct) (occupants found B : List ℕ) (
 
     -- no net is left
     pub netting_done : left ≤ 0 → (j : Job) → read_job bytes ≡ good j
-        → IsNets (grid_of tech.grid) (NetRead.Ended totals at) (read_nets B j 0 j.nets (metal_at_first j) no_totals 0) codes
+        → IsNets (grid_of tech.grid) (Ok (record { totals = totals; next = at })) (read_nets B j 0 j.nets (metal_at_first j) no_totals 0) codes
         × CountedNets j (read_nets B j 0 j.nets (metal_at_first j) no_totals 0) counts₀ counts
     unfolding IsNets CountedNets read_nets ◌>>=◌ with_entries
     netting_done none j read =
@@ -268,7 +271,7 @@ module _ (bytes : List ℕ) (tech : TechStruct) (occupants found B : List ℕ) (
         rw (← same, same_grid) ((all, whole, refl, refl, so_far.nets.coded), rw (whole, append-nil) so_far.tallied)
 
     -- the totals of all nets are small
-    pub fits_all : NetFits 4112 (NetRead.Ended totals at)
+    pub fits_all : NetFits 4112 (Ok (record { totals = totals; next = at }))
     unfolding NetFits
     fits_all =
         let few = nets_few bytes tech occupants found so_far.held so_far.nets in

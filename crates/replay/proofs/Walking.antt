@@ -12,11 +12,13 @@ use mathlib.Core.List.{List, [], ◌∷◌, ◌++◌}
 use mathlib.Core.Bool.{Bool}
 use native.Mathlib.Omega.{arith}
 use lib.ListN.{length, set}
-use lib.Dec.{eqb, eqb-suc-suc}
+use lib.Dec.{eqb}
 use Rattle.bits.specs.Bits.{field}
 use Rattle.job.specs.Grid.{vertices}
 use Rattle.job.specs.Structs.{grid_of}
 use Rattle.job.specs.Reading.{Read, refused, good}
+use Rattle.job.specs.Refusals.{number_of}
+use Rattle.job.specs.declared.refusal.Refused.{Refused}
 use Rattle.rules.specs.Tracks.{layer_of}
 use Rattle.rules.specs.Views.{View}
 use Rattle.rules.specs.Steps.{Made, legal, step}
@@ -35,9 +37,7 @@ use Rattle.walker.specs.declared.Walk.{Walk}
 use Rattle.walker.proofs.Landing.{MoveFits, made_fits, made_entered, MovesMade, made_none, made_one, made_all}
 use Rattle.replay.specs.Following.{Came, came, stopped, and_read, arrays_of, judged_move, moves_from}
 use Rattle.replay.specs.Structs.{judged_of, WholeJudged, IsJudged, IsMoves, MovesFit, CountedMoves}
-use Rattle.replay.specs.declared.judge.Judged.{Judged}
-use Rattle.replay.specs.declared.judge.Judged.TheVariants as Judge
-use Rattle.replay.specs.declared.moves.MovesRead.{MovesRead}
+use Rattle.std.proofs.Common.{Result, Ok, Err}
 use Rattle.replay.proofs.Parts.{judged-step}
 
 module _ (tech : TechStruct) (view : View) (B : List ℕ) (net count from start : ℕ) (first : Arrays) (before : List ℕ) where
@@ -59,7 +59,7 @@ module _ (tech : TechStruct) (view : View) (B : List ℕ) (net count from start 
     pub small : CountsFit (2 ^ 22 * at) counts
 
   -- what the code answers and leaves
-  abbrev pub Answers : MovesRead → (spots codes counts : List ℕ) → Type 0
+  abbrev pub Answers : Result Walk Refused → (spots codes counts : List ℕ) → Type 0
   Answers r spots codes counts =
       IsMoves r Whole_moves
       × (MovesFit r × ((spots ≡ (arrays_of Whole_moves).spots)
@@ -87,23 +87,23 @@ module _ (tech : TechStruct) (view : View) (B : List ℕ) (net count from start 
   -- with a move left
   module _ {spots codes counts : List ℕ} {walk : Walk} {layer at left : ℕ} (so_far : Walking spots codes counts walk layer at left) (some : 0 < left) where
     -- the move is judged as the definition's
-    abbrev pub Judges : Judged → Bool → Type 0
+    abbrev pub Judges : Result MadeStruct Refused → Bool → Type 0
     Judges r last =
         IsJudged (grid_of tech.grid) view (place_of walk.place) r (judged_move B (tech_by tech) view spots last at (place_of walk.place))
 
     -- the whole is this move, and the rest
-    one_more : Whole_moves ≡ and_read (record { spots = spots; codes = codes }) (judged_move B (tech_by tech) view spots (eqb left 1) at (place_of walk.place))
+    one_more : Whole_moves ≡ and_read (record { spots = spots; codes = codes }) (judged_move B (tech_by tech) view spots (eqb (left - 1) 0) at (place_of walk.place))
         (λ made. moves_from B (tech_by tech) view net (left - 1) (at + 2) (gone_on so_far.gone made) (enter_by net made (record { spots = spots; codes = codes })))
     unfolding moves_from
     one_more = so_far.same ∙ by left some
       where
         by : (n : ℕ) → 0 < n → moves_from B (tech_by tech) view net n at so_far.gone (record { spots = spots; codes = codes })
-            ≡ and_read (record { spots = spots; codes = codes }) (judged_move B (tech_by tech) view spots (eqb n 1) at (place_of walk.place))
+            ≡ and_read (record { spots = spots; codes = codes }) (judged_move B (tech_by tech) view spots (eqb (n - 1) 0) at (place_of walk.place))
             (λ made. moves_from B (tech_by tech) view net (n - 1) (at + 2) (gone_on so_far.gone made) (enter_by net made (record { spots = spots; codes = codes })))
         by zero h = absurd (omega (arith, h))
         by (suc n) h =
             let less : suc n - 1 ≡ n = omega arith in
-            rw (eqb-suc-suc n 0, less, so_far.made.is.place) refl
+            rw (less, so_far.made.is.place) refl
 
     -- the rest, once the move is read
     abbrev Rest : Read Made → Came Gone
@@ -112,16 +112,16 @@ module _ (tech : TechStruct) (view : View) (B : List ℕ) (net count from start 
         (λ made. moves_from B (tech_by tech) view net (left - 1) (at + 2) (gone_on so_far.gone made) (enter_by net made (record { spots = spots; codes = codes })))
 
     -- a move that is refused
-    pub walking_refused : {r : Judged} {last : Bool} {n p : ℕ} → Judges r last → last ≡ eqb left 1 → r ≡ Judge.Refused n p
-        → Answers (MovesRead.Refused n p) spots codes counts
+    pub walking_refused : {r : Result MadeStruct Refused} {last : Bool} {e : Refused} → Judges r last → last ≡ eqb (left - 1) 0 → r ≡ Err e
+        → Answers (Err e) spots codes counts
     unfolding judged_of IsMoves MovesFit CountedMoves arrays_of and_read
-    walking_refused {n = n} {p = p} judged is_last told =
-        let read : judged_move B (tech_by tech) view spots (eqb left 1) at (place_of walk.place) ≡ refused n p =
+    walking_refused {e = e} judged is_last told =
+        let read : judged_move B (tech_by tech) view spots (eqb (left - 1) 0) at (place_of walk.place) ≡ refused (number_of e.refusal) e.place =
         sym (rw (told, is_last) at judged.same) in
-        let whole : Whole_moves ≡ stopped n p (record { spots = spots; codes = codes }) = one_more ∙ ap Rest read in
+        let whole : Whole_moves ≡ stopped (number_of e.refusal) e.place (record { spots = spots; codes = codes }) = one_more ∙ ap Rest read in
         rw whole ((refl, refl), (tt, (refl, (refl, tt))))
 
-    module _ (last : Bool) {r : Judged} (m : MadeStruct) (judged : Judges r last) (told : r ≡ Judge.Good m) where
+    module _ (last : Bool) {r : Result MadeStruct Refused} (m : MadeStruct) (judged : Judges r last) (told : r ≡ Ok m) where
       -- the definition's move
       abbrev made : Made
       made = made_by (grid_of tech.grid) view (place_of walk.place) m
@@ -145,7 +145,7 @@ module _ (tech : TechStruct) (view : View) (B : List ℕ) (net count from start 
       move_fits fits = made_fits tech view walk.place (field B at 2) m is_step is_whole fits so_far.made.place
 
       -- after the move
-      pub walking_on : TechFits tech → last ≡ eqb left 1 → {more after : List ℕ} {onward : Walk} → more ≡ set spots m.next.vertex 1
+      pub walking_on : TechFits tech → last ≡ eqb (left - 1) 0 → {more after : List ℕ} {onward : Walk} → more ≡ set spots m.next.vertex 1
           → after ≡ lay_all net (extended (grid_of tech.grid) (place_of walk.place) m.extension ++ (m.next.vertex ∷ [])) codes
           → onward ≡ walk_on walk m → {tally : List ℕ} {entered : ℕ} → tally ≡ counted (move_counts (grid_of tech.grid) view walk.place.vertex made) counts
           → entered ≡ layer_of (grid_of tech.grid) m.next.vertex → Walking more after tally onward entered (at + 2) (left - 1)
@@ -171,7 +171,7 @@ module _ (tech : TechStruct) (view : View) (B : List ℕ) (net count from start 
 
   -- after the last move
   pub walking_done : {spots codes counts : List ℕ} {walk : Walk} {layer at left : ℕ} → Walking spots codes counts walk layer at left → left ≤ 0 → count < 2 ^ 20
-      → Answers (MovesRead.Walked walk) spots codes counts
+      → Answers (Ok walk) spots codes counts
   unfolding moves_from IsMoves MovesFit CountedMoves arrays_of
   walking_done {spots} {codes} {walk = walk} {at = at} {left = left} so_far none few =
       let no_move : left ≡ 0 = omega arith in

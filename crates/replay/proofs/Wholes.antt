@@ -14,7 +14,10 @@ use Rattle.job.specs.Grid.{Grid, vertices}
 use Rattle.job.specs.Job.{Job}
 use Rattle.job.specs.Reading.{Read, refused, good, ◌>>=◌, ◌>>◌, rule, read_job}
 use Rattle.job.specs.Structs.{grid_of}
+use Rattle.job.specs.declared.refusal.Refusal.TheVariants.{PlanCut}
+use Rattle.job.specs.declared.refusal.Refused.{Refused}
 use Rattle.job.proofs.Binds.{steps}
+use Rattle.occupants.specs.declared.occupant.Occupant.{Occupant}
 use Rattle.rules.specs.Standings.{metal_at_first}
 use Rattle.rules.specs.Routings.{no_totals, Routed}
 use Rattle.rules.specs.declared.price.Tech.{Tech as TechStruct}
@@ -27,14 +30,14 @@ use Rattle.walker.specs.Structs.{PlanHeld}
 use Rattle.walker.proofs.Wholes.{laid_kept, read_grid, finished_map_lem}
 use Rattle.replay.specs.Structs.{IsNets, CountedNets, IsReplayed, CountedPlan, plan_from, IsEnd, finished_map}
 use Rattle.plan.specs.Leaving.{replayed_map}
-use Rattle.replay.specs.declared.net.NetRead.{NetRead}
-use Rattle.replay.specs.declared.whole.Replayed.{Replayed}
+use Rattle.replay.specs.declared.net.Ended.{Ended}
 use Rattle.replay.proofs.Tails.{TailTest}
+use Rattle.std.proofs.Common.{Result, Ok, Err}
 
 -- ---- the tail
 
 -- nets that were refused
-pub end_refused : (bits : List ℕ) {read : NetRead} {n p : ℕ} → read ≡ NetRead.Refused n p → IsEnd bits read (Replayed.Refused n p)
+pub end_refused : (bits : List ℕ) {read : Result Ended Refused} {e : Refused} → read ≡ Err e → IsEnd bits read (Err e)
 unfolding IsNets IsReplayed plan_from ◌>>=◌
 end_refused bits told g x codes is = let e : x ≡ _ = rw told at is in rw e refl
 
@@ -49,16 +52,16 @@ tail_zero : (bytes : List ℕ) (all : Progress) → TailTest bytes all.at ≡ tr
 unfolding plan_from ◌>>=◌ ◌>>◌ rule
 tail_zero bytes all zeros = rw zeros refl
 
-module _ (bytes : List ℕ) {read : NetRead} {totals : TotalsStruct} {at : ℕ} (told : read ≡ NetRead.Ended totals at) where
+module _ (bytes : List ℕ) {read : Result Ended Refused} {ended : Ended} (told : read ≡ Ok ended) where
   -- a tail that is long or not zero
-  pub end_tail : TailTest bytes at ≡ false → IsEnd (bits_of bytes) read (Replayed.Refused 15 at)
+  pub end_tail : TailTest bytes ended.next ≡ false → IsEnd (bits_of bytes) read (Err (record { refusal = PlanCut; place = ended.next }))
   unfolding IsNets IsReplayed
   end_tail bad g x codes is =
       let (all, e, total, next, coded) = rw told at is in
       ap (plan_from (bits_of bytes)) e ∙ tail_bad bytes all (ap (TailTest bytes) (sym next) ∙ bad) ∙ ap (refused 15) (sym next)
 
   -- a tail of zeros
-  pub end_good : TailTest bytes at ≡ true → IsEnd (bits_of bytes) read (Replayed.Good totals)
+  pub end_good : TailTest bytes ended.next ≡ true → IsEnd (bits_of bytes) read (Ok ended.totals)
   unfolding IsNets IsReplayed
   end_good zeros g x codes is =
       let (all, e, total, next, coded) = rw told at is in (
@@ -78,11 +81,11 @@ unfolding plan_from ◌>>=◌
 plan_none bits n p r e = let z : ◌≡◌ {A = ℕ} 0 1 = cc in omega arith
 
 -- the codes of a good plan are those of its metal
-plan_coded : (g : Grid) (bits : List ℕ) (read : NetRead) (x : Read Progress) (codes : List ℕ) (r : Routed) → IsNets g read x codes
+plan_coded : (g : Grid) (bits : List ℕ) (read : Result Ended Refused) (x : Read Progress) (codes : List ℕ) (r : Routed) → IsNets g read x codes
     → plan_from bits x ≡ good r → Codes g r.metal codes
 unfolding IsNets
-plan_coded g bits (NetRead.Refused n p) x codes r is e = absurd (plan_none bits n p r (sym (ap (plan_from bits) is) ∙ e))
-plan_coded g bits (NetRead.Ended totals at) x codes r (all, e, total, next, coded) h =
+plan_coded g bits (Err refusal) x codes r is e = absurd (plan_none bits _ _ r (sym (ap (plan_from bits) is) ∙ e))
+plan_coded g bits (Ok ended) x codes r (all, e, total, next, coded) h =
     subst (λ (metal : List (List ℕ)). Codes g metal codes) (plan_metal bits all r (sym (ap (plan_from bits) e) ∙ h)) coded
 
 -- the counts of all nets are those of the plan
@@ -103,9 +106,9 @@ plan_counted j plan before after h = plan_sums j (bits_of plan) _ before after h
 
 -- ---- from the job that was read to the map at the end
 
-module _ (bytes : List ℕ) (tech : TechStruct) (occupants found : List ℕ) (count start : ℕ) (held : PlanHeld bytes tech occupants found count start)
+module _ (bytes : List ℕ) (tech : TechStruct) (occupants : List Occupant) (found : List ℕ) (count start : ℕ) (held : PlanHeld bytes tech occupants found count start)
     {bare laid : List ℕ} (zeros : bare ≡ zeroed (vertices (grid_of tech.grid)) found) (kept : Beyond (vertices (grid_of tech.grid)) laid bare)
-    (plan : List ℕ) (read : NetRead) (replayed : Replayed) {after map : List ℕ}
+    (plan : List ℕ) (read : Result Ended Refused) (replayed : Result TotalsStruct Refused) {after map : List ℕ}
     (is : (j : Job) → read_job bytes ≡ good j → IsNets (grid_of tech.grid) read (read_nets (bits_of plan) j 0 j.nets (metal_at_first j) no_totals 0) after)
     (still : Beyond (vertices (grid_of tech.grid)) after laid) (ended : IsEnd (bits_of plan) read replayed)
     (finished : map ≡ finished_map occupants (vertices (grid_of tech.grid)) replayed after) (j : Job) (jobIs : read_job bytes ≡ good j) where
@@ -125,14 +128,14 @@ module _ (bytes : List ℕ) (tech : TechStruct) (occupants found : List ℕ) (co
       g : grid_of tech.grid ≡ j.grid
       g = read_grid bytes tech occupants found count start held j jobIs
 
-      by : (r : Replayed) → IsReplayed r (read_plan j plan) → finished_map occupants (vertices (grid_of tech.grid)) r after ≡ replayed_map j (read_plan j plan) found
-      by (Replayed.Refused n p) e =
+      by : (r : Result TotalsStruct Refused) → IsReplayed r (read_plan j plan) → finished_map occupants (vertices (grid_of tech.grid)) r after ≡ replayed_map j (read_plan j plan) found
+      by (Err refusal) e =
           zeroed_kept past ∙ ap (λ (h : Grid). zeroed (vertices h) found) g ∙ sym (ap (λ (x : Read Routed). replayed_map j x found) e)
-      by (Replayed.Good totals) (r, e, total) =
+      by (Ok totals) (r, e, total) =
           finished_map_lem bytes tech occupants found count start held r.metal after (plan_coded (grid_of tech.grid) (bits_of plan) read _ after r (is j jobIs) e) past j jobIs
           ∙ sym (ap (λ (x : Read Routed). replayed_map j x found) e)
 
 -- the map finished by a count of the vertices
-pub count_finished : (occupants : List ℕ) (r : Replayed) (after : List ℕ) {n v : ℕ} {map : List ℕ} → n ≡ v → map ≡ finished_map occupants n r after
+pub count_finished : (occupants : List Occupant) (r : Result TotalsStruct Refused) (after : List ℕ) {n v : ℕ} {map : List ℕ} → n ≡ v → map ≡ finished_map occupants n r after
     → map ≡ finished_map occupants v r after
 count_finished occupants r after {map = map} e h = subst (λ (k : ℕ). map ≡ finished_map occupants k r after) e h

@@ -19,6 +19,7 @@ use Rattle.plan.specs.Reading.{group}
 use Rattle.counts.specs.Counts.{counted, walk_counts}
 use Rattle.tree.specs.Spots.{some_unjoined}
 use Rattle.walker.specs.Entering.{Arrays, enter_by, Gone, gone_at, gone_on}
+use Rattle.replay.specs.declared.start.Start.{Start}
 
 pub data Came (A : Type 0) : Type 0 where
   came : A → Arrays → Came A
@@ -58,11 +59,6 @@ moves_from bits t view net (suc n) at gone arrays =
     (λ made. moves_from bits t view net n (at + 2) (gone_on gone made) (enter_by net made arrays))
 
 -- ---- a join, after its flag
-
--- the start and the number of moves
-pub record Start : Type 0 where
-  pub vertex : ℕ
-  pub moves : ℕ
 
 unfoldable pub read_start : (bits : List ℕ) → Grid → (spots : List ℕ) → (at : ℕ) → Read Start
 read_start bits g spots at = do

@@ -3,56 +3,45 @@ ghost use Rattle.std.specs.Prelude.{◌≡◌, ◌<◌, ◌≤◌, ◌^◌, ◌+
 ghost use Rattle.bits.specs.Bits.{bits_of};
 ghost use Rattle.job.specs.Grid.{vertices};
 ghost use Rattle.job.specs.Structs.{grid_of};
-ghost use Rattle.rules.specs.PriceLists.{Priced};
-ghost use Rattle.rules.specs.Structs.{TechFits, tech_by, seen_by};
+ghost use Rattle.rules.specs.Structs.{tech_by, seen_by};
 ghost use Rattle.counts.specs.Structs.{CountsFit};
+ghost use Rattle.job.specs.Refusals.{read_of};
 ghost use Rattle.tree.specs.Spots.{Pins};
 ghost use Rattle.walker.specs.Structs.{totals_of, Bounded};
 ghost use Rattle.replay.specs.Following.{arrays_of, net_from};
 ghost use Rattle.replay.specs.Structs.{flag_of, IsNet, CountedNet, NetFits};
 
-use crate::join::{JoinRead, read_join};
+use crate::join::read_join;
 use bits::Cursor;
-use rules::price::Tech;
+use job::refusal::{Refusal, Refused};
+use rules::price::Prices;
 use rules::totals::Totals;
 use tree::some_unjoined;
 use walker::NetAtHand;
 
-// The bit before a record.
-#[derive(Clone, Copy)]
-pub enum Flag {
-    Cut,
-    None,
-    Join,
-}
-
 // The totals after a net's records, and the next bit.
 #[derive(Clone, Copy)]
-pub enum NetRead {
-    Refused(usize, usize),
-    Ended(Totals, usize),
+pub struct Ended {
+    pub totals: Totals,
+    pub next: usize,
 }
 
-pub fn read_flag(plan: &[u8], at: usize) -> Flag
+// The bit before a record: whether a join follows.
+pub fn read_flag(plan: &[u8], at: usize) -> Result<bool, Refused>
     requires { at < 2 ^ 40 }
-    ensures { result ≡ flag_of (bits_of plan.now) at }
+    ensures { read_of result ≡ flag_of (bits_of plan.now) at }
 {
     let start = Cursor { at };
     if !start.whole(plan, 1) {
-        return Flag::Cut;
+        return Err(Refusal::PlanCut.at(at));
     }
     let flag = start.field(plan, 1);
-    if flag.value == 0 {
-        Flag::None
-    } else {
-        Flag::Join
-    }
+    Ok(flag.value != 0)
 }
 
 // Joins until every pin is joined, or a record that says none.
 pub fn read_records(
-    tech: Tech,
-    prices: &[usize; 40],
+    prices: &Prices,
     seen: &[u8; 16384],
     spots: &mut [u8; 16384],
     map: &mut [u16],
@@ -62,59 +51,44 @@ pub fn read_records(
     pins: &[usize; 16],
     from: usize,
     before: Totals,
-) -> NetRead
-    requires { (TechFits tech) × (Priced (tech_by tech) prices.now) × (vertices (grid_of tech.grid) ≤ length map.old)
+) -> Result<Ended, Refused>
+    requires { (vertices (grid_of prices.now.tech.grid) ≤ length map.old)
         × (Pins pins.now hand.pins) × (hand.number < 256) × (Bounded (16 * hand.number) before from)
         × (CountsFit (2 ^ 22 * from) counts.old) }
-    ensures answer { IsNet result (net_from (bits_of plan.now) (tech_by tech) (seen_by tech seen.now) hand.number
+    ensures answer { IsNet result (net_from (bits_of plan.now) (tech_by prices.now.tech) (seen_by prices.now.tech seen.now) hand.number
         (take hand.pins pins.now) hand.pins from (totals_of before) counts.old
-        (record { spots = spots.entry.now; codes = map.old })) }
+        (record { spots = spots.old; codes = map.old })) }
     ensures fits { NetFits (16 * hand.number + 16) result }
-    ensures map { map.new ≡ (arrays_of (net_from (bits_of plan.now) (tech_by tech)
-        (seen_by tech seen.now) hand.number (take hand.pins pins.now) hand.pins from (totals_of before) counts.old
-        (record { spots = spots.entry.now; codes = map.old }))).codes }
-    ensures counts { CountedNet (net_from (bits_of plan.now) (tech_by tech)
-        (seen_by tech seen.now) hand.number (take hand.pins pins.now) hand.pins from (totals_of before) counts.old
-        (record { spots = spots.entry.now; codes = map.old })) counts.new }
+    ensures map { map.new ≡ (arrays_of (net_from (bits_of plan.now) (tech_by prices.now.tech)
+        (seen_by prices.now.tech seen.now) hand.number (take hand.pins pins.now) hand.pins from (totals_of before) counts.old
+        (record { spots = spots.old; codes = map.old }))).codes }
+    ensures counts { CountedNet (net_from (bits_of plan.now) (tech_by prices.now.tech)
+        (seen_by prices.now.tech seen.now) hand.number (take hand.pins pins.now) hand.pins from (totals_of before) counts.old
+        (record { spots = spots.old; codes = map.old })) counts.new }
 {
     let mut totals = before;
     let mut at = from;
-    let mut left = hand.pins;
-    while 0 < left {
+    for _record in 0..hand.pins {
         if !some_unjoined(spots, pins, hand.pins) {
-            return NetRead::Ended(totals.with_net(), at);
+            return Ok(Ended {
+                totals: totals.with_net(),
+                next: at,
+            });
         }
-        let flag = read_flag(plan, at);
-        match flag {
-            Flag::Cut => {
-                return NetRead::Refused(15, at);
-            }
-            Flag::None => {
-                return NetRead::Ended(totals, at + 1);
-            }
-            Flag::Join => {}
+        let more = read_flag(plan, at)?;
+        if !more {
+            return Ok(Ended {
+                totals,
+                next: at + 1,
+            });
         }
-        let joined = read_join(
-            tech,
-            prices,
-            seen,
-            spots,
-            map,
-            counts,
-            plan,
-            hand.number,
-            at + 1,
-        );
-        match joined {
-            JoinRead::Refused(refusal, place) => {
-                return NetRead::Refused(refusal, place);
-            }
-            JoinRead::Joined(walk, next) => {
-                totals = totals.with_join(walk.cost, walk.added, walk.penalties);
-                at = next;
-            }
-        }
-        left -= 1;
+        let joined = read_join(prices, seen, spots, map, counts, plan, hand.number, at + 1)?;
+        let walk = joined.walk;
+        totals = totals.with_join(walk.cost, walk.added, walk.penalties);
+        at = joined.next;
     }
-    NetRead::Ended(totals.with_net(), at)
+    Ok(Ended {
+        totals: totals.with_net(),
+        next: at,
+    })
 }

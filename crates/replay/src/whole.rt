@@ -9,46 +9,42 @@ ghost use Rattle.walker.specs.Structs.{PlanHeld};
 ghost use Rattle.replay.specs.Structs.{NetFits, IsEnd, IsReplayed, CountedPlan, finished_map};
 ghost use Rattle.plan.specs.Leaving.{replayed_map};
 
-use crate::net::NetRead;
+use crate::net::Ended;
 use crate::nets::read_nets;
 use crate::tail::zero_tail;
+use job::refusal::{Refusal, Refused};
 use metal::codes::put_obstacles;
 use metal::pins::lay_all_pins;
 use metal::zeros::zero_codes;
+use occupants::occupant::Occupant;
 use rules::price::Tech;
 use rules::totals::Totals;
 
-#[derive(Clone, Copy)]
-pub enum Replayed {
-    Refused(usize, usize),
-    Good(Totals),
-}
-
 // The tail after the last net.
-pub fn end_plan(plan: &[u8], read: NetRead) -> Replayed
+pub fn end_plan(plan: &[u8], read: Result<Ended, Refused>) -> Result<Totals, Refused>
     requires { NetFits 4112 read }
     ensures { IsEnd (bits_of plan.now) read result }
 {
-    match read {
-        NetRead::Refused(refusal, place) => Replayed::Refused(refusal, place),
-        NetRead::Ended(totals, at) => {
-            if zero_tail(plan, at) {
-                Replayed::Good(totals)
-            } else {
-                Replayed::Refused(15, at)
-            }
-        }
+    let ended = read?;
+    if !zero_tail(plan, ended.next) {
+        return Err(Refusal::PlanCut.at(ended.next));
     }
+    Ok(ended.totals)
 }
 
 // Obstacles are put into the map of a good plan; after a refusal it is zero.
-pub fn finish_map(map: &mut [u16], occupants: &[u8; 16384], count: usize, replayed: Replayed)
+pub fn finish_map(
+    map: &mut [u16],
+    occupants: &[Occupant; 16384],
+    count: usize,
+    replayed: Result<Totals, Refused>,
+)
     requires { (count ≤ 16384) × (count ≤ length map.old) }
     ensures { map.new ≡ finished_map occupants.now count replayed map.old }
 {
     match replayed {
-        Replayed::Good(_totals) => put_obstacles(map, occupants, count),
-        Replayed::Refused(_refusal, _place) => zero_codes(map, count),
+        Ok(_) => put_obstacles(map, occupants, count),
+        Err(_) => zero_codes(map, count),
     }
 }
 
@@ -56,13 +52,13 @@ pub fn finish_map(map: &mut [u16], occupants: &[u8; 16384], count: usize, replay
 pub fn replay_plan(
     s: &[u8],
     tech: Tech,
-    occupants: &[u8; 16384],
+    occupants: &[Occupant; 16384],
     map: &mut [u16],
     counts: &mut [usize; 48],
     plan: &[u8],
     nets: usize,
     from: usize,
-) -> Replayed
+) -> Result<Totals, Refused>
     requires { (PlanHeld s.now tech occupants.now map.old nets from) × (CountsFit 0 counts.old) }
     ensures answer { (j : Job) → read_job s.now ≡ good j → IsReplayed result (read_plan j plan.now) }
     ensures map { (j : Job) → read_job s.now ≡ good j → map.new ≡ replayed_map j (read_plan j plan.now) map.old }

@@ -19,7 +19,6 @@ use Rattle.plan.specs.Leaving.{replayed_map}
 use Rattle.router.specs.Room.{work_need, read_with_room}
 use Rattle.router.specs.Routing.{RoutingOutcome, refused_routing, total_result, routed, routing_read, routing_of}
 use Rattle.router.specs.Held.{routing_leaves}
-use Rattle.router.specs.declared.routing_call.RoutingResult.{RoutingResult}
 
 module _ (bytes map work plan : List ℕ) where
   -- 14 leaves zeros
@@ -40,10 +39,10 @@ module _ (bytes map work plan : List ℕ) where
     whole : (j : Job) → read_with_room bytes map work ≡ good j → length (plan_of j) ≤ length plan → o ≡ left_whole j → Ends o
 
   -- a refusal from 1 to 13
-  pub routes_refused : {n p : ℕ} {r : RoutingResult} → read_with_room bytes map work ≡ refused n p → r ≡ refused_routing n p
-      → routing_leaves r map work plan ≡ routing_of bytes map work plan
+  pub routes_refused : {n p : ℕ} → read_with_room bytes map work ≡ refused n p
+      → routing_leaves (refused_routing n p) map work plan ≡ routing_of bytes map work plan
   unfolding routing_of routing_read
-  routes_refused e is = rw (e, is) refl
+  routes_refused e = rw e refl
 
   -- 14
   pub routes_short : (j : Job) → read_with_room bytes map work ≡ good j → length plan < length (plan_of j) → routing_of bytes map work plan ≡ left_short j
@@ -60,7 +59,7 @@ module _ (bytes map work plan : List ℕ) where
   routes_ends = by (read_with_room bytes map work) refl
     where
       by : (x : Read Job) → read_with_room bytes map work ≡ x → Ends (routing_of bytes map work plan)
-      by (refused n p) e = early n p e (sym (routes_refused e refl))
+      by (refused n p) e = early n p e (sym (routes_refused e))
       by (good j) e = fits (dec_lt (length plan) (length (plan_of j)))
         where
           fits : Dec (length plan < length (plan_of j)) → Ends (routing_of bytes map work plan)

@@ -1,6 +1,6 @@
 -- What the code holds of a job that was read.
 --     head_holds                         a head and layer lines that were read are a good job's
---     holds-sized, holds-eight           its grid is small, and its array of M has eight
+--     holds-sized                        its grid is small
 --     Numbers, holds_numbers             its numbers, within their limits
 --     job_held                           what is held is the job's
 --     bytes_below                        a slice of bytes holds bytes
@@ -23,53 +23,47 @@ use Rattle.job.specs.Grid.{vertices}
 use Rattle.job.specs.Job.{Layer, Job, largest_min_length}
 use Rattle.job.specs.Good.{all_pins}
 use Rattle.job.specs.Reading.{Read, refused, good, ◌>>=◌, ◌>>◌, rule, obstacles_at, nets_at, read_job}
-use Rattle.job.specs.Structs.{Sized, grid_of, eight, layers_of}
+use Rattle.job.specs.Structs.{Sized, grid_of, layer_struct, no_line, eight, layers_of}
 use Rattle.job.specs.declared.groups.Head.{Head as HeadStruct}
-use Rattle.job.specs.declared.layers.Layers.{Layers}
+use Rattle.job.specs.declared.groups.Layer.{Layer as LayerStruct}
 use Rattle.job.proofs.Binds.{steps}
 use Rattle.job.proofs.Tests.{tests}
 use Rattle.reader.specs.Structs.{largest_in}
 use Rattle.reader.specs.declared.whole.JobRead.{JobRead}
-use Rattle.reader.proofs.Lines.{largest_lines, eight-length}
+use Rattle.reader.proofs.Lines.{largest_lines}
 use Rattle.reader.proofs.Outcome.{ReadGood, least_below}
 use Rattle.occupants.specs.Occupants.{Occupants}
+use Rattle.occupants.specs.declared.occupant.Occupant.{Occupant}
 use Rattle.rules.specs.Prices.{Tech, tech_of}
-use Rattle.rules.specs.Structs.{line_at, lines_from, tech_by}
+use Rattle.rules.specs.Structs.{line_at, line_record, lines_from, tech_by}
 use Rattle.rules.proofs.Techs.{good_tech}
 use Rattle.walker.specs.Structs.{PlanHeld}
 use Rattle.router.specs.Room.{work_need, room_for, read_with_room}
-use Rattle.router.specs.Held.{HeadHolds, held_of, JobHeld, room_answer}
+use Rattle.router.specs.Held.{HeadHolds, held_of, JobHeld}
 use Rattle.router.specs.declared.held.Held.{Held}
-use Rattle.router.specs.declared.held.Room.{Room}
-use Rattle.router.specs.declared.held.Room.TheVariants.{Enough, Short}
 
 -- ---- layers
 
--- what an array of eight holds at a layer
-array_at : (f : Layer → ℕ) (done : List Layer) (l : Layer) (rest : List Layer) → get_or (eight (map f (done ++ (l ∷ rest)))) (length done) 0 ≡ f l
-unfolding eight
-array_at f done l rest =
-    get_or-append (map f (done ++ (l ∷ rest))) _ 0 (length done)
-    (omega (arith, length-map (done ++ (l ∷ rest)) f, length-append done (l ∷ rest))) ∙ by done
+-- what the array holds at a layer
+array_at : (done : List Layer) (l : Layer) (rest : List Layer) → line_at (layers_of (done ++ (l ∷ rest))) (length done) ≡ layer_struct l
+unfolding line_at layers_of eight
+array_at done l rest =
+    get_or-append (map layer_struct (done ++ (l ∷ rest))) _ no_line (length done)
+    (omega (arith, length-map (done ++ (l ∷ rest)) layer_struct, length-append done (l ∷ rest))) ∙ by done
   where
-    by : (ds : List Layer) → get_or (map f (ds ++ (l ∷ rest))) (length ds) 0 ≡ f l
+    by : (ds : List Layer) → get_or (map layer_struct (ds ++ (l ∷ rest))) (length ds) no_line ≡ layer_struct l
     by [] = refl
     by (d ∷ ds) = by ds
 
 -- the lines from a layer on are the rest of the job's
 lines_from_lem : (done rest : List Layer) → lines_from (layers_of (done ++ rest)) (length done) (length rest) ≡ rest
-unfolding lines_from line_at layers_of
+unfolding lines_from
 lines_from_lem done [] = refl
 lines_from_lem done (l ∷ rest) =
     let more : length (done ++ (l ∷ [])) ≡ suc (length done) = omega (arith, length-append done (l ∷ [])) in
     let others = subst (λ (n : ℕ). lines_from (layers_of ((done ++ (l ∷ [])) ++ rest)) n (length rest) ≡ rest) more (lines_from_lem (done ++ (l ∷ [])) rest) in
     let tail = subst (λ (ls : List Layer). lines_from (layers_of ls) (suc (length done)) (length rest) ≡ rest) (append_assoc done (l ∷ []) rest) others in
-    λ i. record {
-      wire = array_at (λ (x : Layer). x.wire) done l rest i;
-      via = array_at (λ (x : Layer). x.via) done l rest i;
-      min_length = array_at (λ (x : Layer). x.min_length) done l rest i;
-      area = array_at (λ (x : Layer). x.area) done l rest i;
-    } ∷ tail i
+    λ i. line_record (array_at done l rest i) ∷ tail i
 
 -- ---- the job
 
@@ -83,7 +77,7 @@ pub record Numbers (v l : ℕ) : Type 0 where
   pub largest : l ≤ 15
   pub work : v * 4 * (l + 1) ≤ 1048576
 
-module _ (head : HeadStruct) (layers : Layers) (holds : HeadHolds head layers) where
+module _ (head : HeadStruct) (layers : List LayerStruct) (holds : HeadHolds head layers) where
   -- the code's grid is the job's
   grid : grid_of head.grid ≡ holds.job.grid
   grid = ap (λ (h : HeadStruct). grid_of h.grid) holds.heads
@@ -97,16 +91,12 @@ module _ (head : HeadStruct) (layers : Layers) (holds : HeadHolds head layers) w
         vertices = rules.vertices;
       }
 
-  -- the array of M has eight
-  pub holds-eight : length layers.least ≡ 8
-  holds-eight = rw holds.lines (eight-length holds.job.lines (omega (arith, holds.rules.lines, holds.rules.grid.layers)))
-
   -- the largest M is the job's
-  largest_is : largest_in layers.least ≡ largest_min_length holds.job.lines
-  largest_is = ap (λ (x : Layers). largest_in x.least) holds.lines ∙ largest_lines holds.job.lines
+  largest_is : largest_in layers ≡ largest_min_length holds.job.lines
+  largest_is = ap largest_in holds.lines ∙ largest_lines holds.job.lines
 
   -- the numbers are within their limits
-  pub holds_numbers : {v l : ℕ} → v ≡ vertices (grid_of head.grid) → l ≡ largest_in layers.least → Numbers v l
+  pub holds_numbers : {v l : ℕ} → v ≡ vertices (grid_of head.grid) → l ≡ largest_in layers → Numbers v l
   holds_numbers {v} {l} ev el =
       let few : v ≤ 16384 = omega (arith, ev, holds-sized.vertices) in
       let low : l ≤ 15 = omega (arith, el, largest_is, least_below holds.job.lines holds.rules.good_lines) in
@@ -133,7 +123,7 @@ module _ (head : HeadStruct) (layers : Layers) (holds : HeadHolds head layers) w
       lines = ap (lines_from (layers_of holds.job.lines) 0) (sym holds.rules.lines) ∙ lines_from_lem [] holds.job.lines
 
   -- what is held is the job's
-  held_is : (bytes occupants : List ℕ) → read_job bytes ≡ good holds.job
+  held_is : (bytes : List ℕ) (occupants : List Occupant) → read_job bytes ≡ good holds.job
       → Occupants holds.job.grid holds.job.obstacles (all_pins holds.job.nets) occupants → JobHeld bytes occupants (held_of head layers)
   unfolding held_of work_need nets_at obstacles_at tech_of
   held_is bytes occupants read occupied =
@@ -154,7 +144,7 @@ module _ (head : HeadStruct) (layers : Layers) (holds : HeadHolds head layers) w
       }
 
 -- and so for a job that was read
-pub job_held : {bytes occupants : List ℕ} {x : JobRead} {held : Held} (read : ReadGood bytes x)
+pub job_held : {bytes : List ℕ} {occupants : List Occupant} {x : JobRead} {held : Held} (read : ReadGood bytes x)
     → ((j : Job) → read_job bytes ≡ good j → Occupants j.grid j.obstacles (all_pins j.nets) occupants)
     → held ≡ held_of x.head x.layers → JobHeld bytes occupants held
 job_held {bytes} {occupants} {x} read occupied is =
@@ -175,30 +165,19 @@ refused_room bytes map work e = rw e refl
 
 module _ (v n : ℕ) (map work : List ℕ) where
   -- the map is short
-  pub room_map : length map < v → Short 12 v ≡ room_answer (room_for v n map work)
-  unfolding room_answer room_for rule ◌>>◌
+  pub room_map : length map < v → refused 12 v ≡ room_for v n map work
+  unfolding room_for rule ◌>>◌
   room_map h = rw (lt-leb v (length map) h) refl
 
   -- the work is short
-  pub room_work : v ≤ length map → length work < n → Short 13 n ≡ room_answer (room_for v n map work)
-  unfolding room_answer room_for rule ◌>>◌
+  pub room_work : v ≤ length map → length work < n → refused 13 n ≡ room_for v n map work
+  unfolding room_for rule ◌>>◌
   room_work h k = rw (le-leb v (length map) h, lt-leb n (length work) k) refl
 
   -- neither is
-  pub room_both : v ≤ length map → n ≤ length work → Enough ≡ room_answer (room_for v n map work)
-  unfolding room_answer room_for rule ◌>>◌
+  pub room_both : v ≤ length map → n ≤ length work → good tt ≡ room_for v n map work
+  unfolding room_for rule ◌>>◌
   room_both h k = rw (le-leb v (length map) h, le-leb n (length work) k) refl
-
--- an answer that says short, and one that says enough
-answer_short : (x : Read Unit) {n p : ℕ} → room_answer x ≡ Short n p → x ≡ refused n p
-unfolding room_answer
-answer_short (refused m q) e = cc
-answer_short (good u) e = let z : ◌≡◌ {A = ℕ} 0 1 = cc in absurd (omega arith)
-
-answer_enough : (x : Read Unit) → room_answer x ≡ Enough → x ≡ good tt
-unfolding room_answer
-answer_enough (refused m q) e = let z : ◌≡◌ {A = ℕ} 0 1 = cc in absurd (omega arith)
-answer_enough (good tt) e = refl
 
 -- the slices are long enough for a job
 pub record Roomy (bytes : List ℕ) (j : Job) (map work : List ℕ) : Type 0 where
@@ -219,27 +198,27 @@ pub has_room : (bytes map work : List ℕ) {j : Job} → read_job bytes ≡ good
 unfolding read_with_room room_for
 has_room bytes map work read long longer = simp (steps, tests) (_, read, ((long, longer), refl))
 
-module _ {bytes occupants : List ℕ} {held : Held} (h : JobHeld bytes occupants held) (map work : List ℕ) {r : Room}
-    (answer : r ≡ room_answer (room_for held.vertices held.work map work)) where
+module _ {bytes : List ℕ} {occupants : List Occupant} {held : Held} (h : JobHeld bytes occupants held) (map work : List ℕ) {x : Read Unit}
+    (answer : x ≡ room_for held.vertices held.work map work) where
   -- the answer is the job's
-  answer_is : r ≡ room_answer (room_for (vertices h.job.grid) (work_need h.job) map work)
-  answer_is = answer ∙ (λ i. room_answer (room_for (h.vertices i) (h.work i) map work))
+  answer_is : x ≡ room_for (vertices h.job.grid) (work_need h.job) map work
+  answer_is = answer ∙ (λ i. room_for (h.vertices i) (h.work i) map work)
 
   -- one is short
-  pub room_short : {n p : ℕ} → r ≡ Short n p → read_with_room bytes map work ≡ refused n p
+  pub room_short : {n p : ℕ} → x ≡ refused n p → read_with_room bytes map work ≡ refused n p
   unfolding read_with_room ◌>>=◌ ◌>>◌
-  room_short e = rw (h.read, answer_short _ (sym answer_is ∙ e)) refl
+  room_short e = rw (h.read, sym answer_is ∙ e) refl
 
   -- both are long enough
-  pub room_enough : r ≡ Enough → Roomy bytes h.job map work
+  pub room_enough : x ≡ good tt → Roomy bytes h.job map work
   unfolding read_with_room ◌>>=◌ ◌>>◌ room_for
   room_enough e =
-      let both = answer_enough _ (sym answer_is ∙ e) in
+      let both = sym answer_is ∙ e in
       let (long, longer) = simp (steps, tests) at both in
       record { read = rw (h.read, both) refl; vertices = long; need = longer }
 
 -- what reading a plan asks, and routing
-pub plan_asked : {bytes occupants : List ℕ} {held : Held} (h : JobHeld bytes occupants held) {map : List ℕ} → vertices h.job.grid ≤ length map
+pub plan_asked : {bytes : List ℕ} {occupants : List Occupant} {held : Held} (h : JobHeld bytes occupants held) {map : List ℕ} → vertices h.job.grid ≤ length map
     → PlanHeld bytes held.tech occupants map held.nets held.from
 plan_asked h room =
     record {

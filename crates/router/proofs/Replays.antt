@@ -1,33 +1,35 @@
 -- Replay's answer from what reading answered.
---     replay_refused                 a refusal from 1 to 13
---     replay_read_lem                the plan's answer
---     replay_parts                   an outcome in its parts, with what it accepts
---     result_refused, result_good    the result of the plan's answer
+--     replay_refused     a refusal from 1 to 13
+--     replay_read_lem    the plan's answer
+--     replay_parts       an outcome in its parts, with what it accepts
+--     replay_told        the plan's answer, as the call tells it
 use Prim.Native.Nat.{ℕ}
 use mathlib.Core.Path.{◌≡◌, refl, sym, ap, ◌∙◌}
 use mathlib.Core.Logic.{◌↔◌}
 use mathlib.Core.List.{List}
 use Rattle.bits.specs.Puts.{AllBelow}
 use Rattle.job.specs.Job.{Job}
-use Rattle.job.specs.Reading.{refused, good}
+use Rattle.std.proofs.Common.{Result, Ok, Err}
+use Rattle.job.specs.Reading.{Read, refused, good}
+use Rattle.job.specs.declared.refusal.Refused.{Refused}
+use Rattle.rules.specs.Routings.{Routed}
 use Rattle.job.specs.Slices.{zeroed}
 use Rattle.plan.specs.Reading.{read_plan}
 use Rattle.replay.specs.Structs.{IsReplayed}
 use Rattle.plan.specs.Leaving.{replayed_map}
-use Rattle.replay.specs.declared.whole.Replayed.{Replayed}
 use Rattle.rules.specs.declared.totals.Totals.{Totals as TotalsStruct}
 use Rattle.router.specs.Room.{work_need, read_with_room}
 use Rattle.router.specs.Replay.{refused_replay, replay_result, replay_read, replay_of, Accepts}
-use Rattle.router.specs.Held.{replay_leaves, IsResult}
+use Rattle.router.specs.Held.{replay_answer, replay_leaves}
 use Rattle.router.specs.declared.replay_call.ReplayResult.{ReplayResult}
 use Rattle.router.proofs.Accepting.{replay_accepts}
 
 module _ (bytes plan map work : List ℕ) where
   -- a refusal from 1 to 13 leaves all as found
-  pub replay_refused : {n p : ℕ} {r : ReplayResult} → read_with_room bytes map work ≡ refused n p → r ≡ refused_replay n p
-      → replay_leaves r map work ≡ replay_of bytes plan map work
+  pub replay_refused : {n p : ℕ} → read_with_room bytes map work ≡ refused n p
+      → replay_leaves (refused_replay n p) map work ≡ replay_of bytes plan map work
   unfolding replay_of replay_read
-  replay_refused e is = rw (e, is) refl
+  replay_refused e = rw e refl
 
   -- the plan's answer
   pub replay_read_lem : {j : Job} {r : ReplayResult} {mapNow workNow : List ℕ} → read_with_room bytes map work ≡ good j
@@ -47,19 +49,10 @@ replay_parts bytes plan map work below {r} e =
     let number : r.refusal ≡ (replay_of bytes plan map work).result.refusal = λ i. (e i).result.refusal in
     (λ i. (e i).result, (λ i. (e i).map, (λ i. (e i).work, (λ none. accepted (sym number ∙ none), λ a. number ∙ accepts a))))
 
--- ---- the plan's answer
-
--- refused
-pub result_refused : {replayed : Replayed} {n p : ℕ} {r : ReplayResult} → replayed ≡ Replayed.Refused n p → r ≡ refused_replay n p → IsResult replayed r
+-- the plan's answer, as the call tells it
+pub replay_told : (x : Result TotalsStruct Refused) (read : Read Routed) → IsReplayed x read → replay_answer x ≡ replay_result read
 unfolding IsReplayed replay_result
-result_refused told is x answer = let e : x ≡ _ = rw told at answer in is ∙ sym (ap replay_result e)
-
--- the totals
-pub result_good : {replayed : Replayed} {totals : TotalsStruct} → replayed ≡ Replayed.Good totals
-    → IsResult replayed
-    (record { refusal = 0; place = 0; cost = totals.cost; added = totals.added; penalties = totals.penalties; joined = totals.joined })
-unfolding IsReplayed replay_result
-result_good told x answer =
-    let (r, e, total) = rw told at answer in
+replay_told (Err r) read is = sym (ap replay_result is)
+replay_told (Ok totals) read (r, e, total) =
     (λ i. record { refusal = 0; place = 0; cost = (total i).cost; added = (total i).added; penalties = (total i).penalties; joined = (total i).joined })
     ∙ sym (ap replay_result e)

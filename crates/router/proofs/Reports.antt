@@ -3,14 +3,18 @@
 --     Turned, Taken, replay_ends     replay turns a plan back, or takes it and has its counts
 --     counts_none                    no counts are asked where the job has no room
 --     placed, counts_long            those of a plan that was taken have their places; they are 48
---     added_refused, added_whole     the result after the counts were tried
+--     refused_some                   a refusal's number is not 0
 --     report_turned, report_taken    the outcome of both
-use Prim.Native.Nat.{ℕ, zero, suc}
+use Prim.Native.Nat.{ℕ, zero, suc, ◌≤◌}
 use mathlib.Core.Path.{◌≡◌, refl, sym, ap, ◌∙◌}
 use mathlib.Core.List.{List}
 use native.Mathlib.Omega.{arith}
 use lib.ListN.{length, replicate, length-replicate, get_or}
 use Rattle.job.specs.Job.{Job}
+use Rattle.std.proofs.Common.{Err}
+use Rattle.job.specs.Refusals.{number_of}
+use Rattle.job.specs.declared.refusal.Refusal.{Refusal}
+use Rattle.job.specs.declared.refusal.Refused.{Refused}
 use Rattle.job.specs.Reading.{Read, refused, good, ◌>>=◌, ◌>>◌}
 use Rattle.job.proofs.Numbered.{numbered_some}
 use Rattle.job.proofs.TwoWay.{rules_hold}
@@ -19,9 +23,7 @@ use Rattle.plan.specs.Reading.{read_plan}
 use Rattle.plan.proofs.Numbered.{plan_numbered}
 use Rattle.counts.specs.Counts.{Count, report_need, counted, plan_counts}
 use Rattle.counts.specs.Reports.{room_in}
-use Rattle.counts.specs.Structs.{CountsFit, plus, added_of, left_of}
-use Rattle.counts.specs.declared.report.Added.{Added}
-use Rattle.counts.specs.declared.report.Added.TheVariants.{Refused, Whole}
+use Rattle.counts.specs.Structs.{CountsFit, plus, left_of}
 use Rattle.counts.proofs.Adding.{Placed, counted-length, plus-counted}
 use Rattle.counts.proofs.Reporting.{room_counted, room_long}
 use Rattle.counts.proofs.PlanWorth.{plan_placed}
@@ -29,7 +31,7 @@ use Rattle.replay.specs.Structs.{CountedPlan}
 use Rattle.router.specs.Room.{read_with_room}
 use Rattle.router.specs.Replay.{refused_replay, replay_result, replay_read, replay_of}
 use Rattle.router.specs.Report.{planned_counts, counts_read, report_result, counts_of, report_of}
-use Rattle.router.specs.Held.{CountsHeld, replay_leaves, report_leaves}
+use Rattle.router.specs.Held.{CountsHeld, replay_answer, replay_leaves, report_leaves}
 use Rattle.router.specs.declared.replay_call.ReplayResult.{ReplayResult}
 use Rattle.router.proofs.Numbered.{room_numbered}
 use Rattle.router.proofs.Promises.{room_read}
@@ -47,6 +49,31 @@ zeros_fit n = record { each = λ i. rw (none n i) (omega arith) }
 pub counts_none : (bytes plan map work before after : List ℕ) {n p : ℕ} → read_with_room bytes map work ≡ refused n p
     → CountsHeld bytes plan map work before after
 counts_none bytes plan map work before after e j room = let z : ◌≡◌ {A = ℕ} 0 1 = cc in absurd (omega arith)
+
+-- a refusal's number is not 0
+number_some : (n : Refusal) → 1 ≤ number_of n
+number_some Refusal.TooManyBytes = omega arith
+number_some Refusal.Cut = omega arith
+number_some Refusal.Edition = omega arith
+number_some Refusal.TooManyVertices = omega arith
+number_some Refusal.Layer = omega arith
+number_some Refusal.Obstacle = omega arith
+number_some Refusal.Pin = omega arith
+number_some Refusal.EarlierPin = omega arith
+number_some Refusal.Box = omega arith
+number_some Refusal.Tail = omega arith
+number_some Refusal.ShortMap = omega arith
+number_some Refusal.ShortWork = omega arith
+number_some Refusal.ShortPlan = omega arith
+number_some Refusal.PlanCut = omega arith
+number_some Refusal.Start = omega arith
+number_some Refusal.Move = omega arith
+number_some Refusal.Cost = omega arith
+number_some Refusal.Report = omega arith
+
+pub refused_some : (r : Refused) → (replay_answer (Err r)).refusal ≡ 0 → ⊥
+unfolding refused_replay
+refused_some r none = omega (arith, number_some r.refusal, none)
 
 -- ---- how replay ends
 
@@ -151,21 +178,3 @@ module _ (bytes plan map work : List ℕ) where
         by : ReplayEnds → report_leaves answer mapNow workNow after ≡ report_of bytes plan map work report
         by (turned t) = absurd (t.some (sym (ap (λ (x : ReplayResult). x.refusal) (result_is ∙ t.result)) ∙ none))
         by (taken t) = by_room _ t.counts (placed t) (held (replicate report_need 0) counts t has) _ refl
-
--- ---- the result after the counts were tried
-
--- refused
-pub added_refused : (x : Read Unit) (result : ReplayResult) {r : ReplayResult} {added : Added} {n p : ℕ} → added ≡ added_of x → added ≡ Refused n p
-    → r ≡ refused_replay n p → r ≡ report_result result x
-unfolding added_of report_result
-added_refused (refused m q) result {n = n} {p = p} is told answer =
-    let number : m ≡ n = cc in
-    let place : q ≡ p = cc in
-    answer ∙ (λ i. refused_replay (sym number i) (sym place i))
-added_refused (good u) result is told answer = let z : ◌≡◌ {A = ℕ} 0 1 = cc in absurd (omega arith)
-
--- added
-pub added_whole : (x : Read Unit) (result : ReplayResult) {added : Added} → added ≡ added_of x → added ≡ Whole → result ≡ report_result result x
-unfolding added_of report_result
-added_whole (refused m q) result is told = let z : ◌≡◌ {A = ℕ} 0 1 = cc in absurd (omega arith)
-added_whole (good u) result is told = refl

@@ -1,19 +1,16 @@
 -- Sizing's answer from what reading answered.
---     good_sized        sizing of a good job
---     refused_sized     sizing of a refused one
-use Prim.Native.Nat.{ℕ}
+--     sizing_told     of a good job, or of a refused one
 use mathlib.Core.Path.{◌≡◌}
 use mathlib.Core.List.{List}
-use Rattle.job.specs.Reading.{refused, read_job}
-use Rattle.router.specs.Held.{JobHeld}
+use Prim.Native.Nat.{ℕ}
+use Rattle.std.proofs.Common.{Result, Ok, Err}
+use Rattle.job.specs.declared.refusal.Refused.{Refused}
+use Rattle.occupants.specs.declared.occupant.Occupant.{Occupant}
+use Rattle.router.specs.Held.{IsHeld, sizing_answer}
 use Rattle.router.specs.Sizing.{sized, sizing_of}
 use Rattle.router.specs.declared.held.Held.{Held}
 
-pub good_sized : (bytes : List ℕ) {occupants : List ℕ} {held : Held} → JobHeld bytes occupants held
-    → record { refusal = 0; place = 0; vertices = held.vertices; work = held.work } ≡ sizing_of bytes
+pub sizing_told : (bytes : List ℕ) (occupants : List Occupant) (x : Result Held Refused) → IsHeld bytes occupants x → sizing_answer x ≡ sizing_of bytes
 unfolding sizing_of sized
-good_sized bytes h = rw (h.read, h.vertices, h.work)
-
-pub refused_sized : (bytes : List ℕ) (n p : ℕ) → read_job bytes ≡ refused n p → record { refusal = n; place = p; vertices = 0; work = 0 } ≡ sizing_of bytes
-unfolding sizing_of sized
-refused_sized bytes n p e = rw e
+sizing_told bytes occupants (Ok held) h = rw (h.read, h.vertices, h.work)
+sizing_told bytes occupants (Err r) e = rw e

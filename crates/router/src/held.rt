@@ -1,11 +1,15 @@
-// What replay and routing hold of a job that was read, and the tests of the slices that are lent for it.
+// What replay and routing hold of a job that was read, and the test of the slices that are lent for it.
 ghost use Rattle.std.specs.Prelude.{◌≡◌};
+ghost use Rattle.job.specs.Refusals.{read_of};
+ghost use Rattle.occupants.specs.Occupants.{Bare};
 ghost use Rattle.router.specs.Room.{room_for};
-ghost use Rattle.router.specs.Held.{HeadHolds, held_of, room_answer};
+ghost use Rattle.router.specs.Held.{HeadHolds, IsHeld, held_of};
 
-use job::groups::Head;
-use job::layers::Layers;
+use job::groups::{Head, Layer};
+use job::refusal::{Refusal, Refused};
+use occupants::occupant::Occupant;
 use reader::layers::largest_least;
+use reader::whole::read_job;
 use rules::price::Tech;
 
 // Its layers, its needs, how many nets it has and at which bit they begin.
@@ -18,7 +22,7 @@ pub(crate) struct Held {
     pub from: usize,
 }
 
-pub(crate) fn held_of(head: Head, layers: Layers) -> Held
+fn held_of(head: Head, layers: [Layer; 8]) -> Held
     requires { HeadHolds head layers }
     ensures { result ≡ held_of head layers }
 {
@@ -41,21 +45,29 @@ pub(crate) fn held_of(head: Head, layers: Layers) -> Held
     }
 }
 
-// Both slices are long enough; or 12 or 13 with the need.
-#[derive(Clone, Copy)]
-pub(crate) enum Room {
-    Enough,
-    Short(usize, usize),
+// What is held of the job that the bytes hold, or the first rule that they break.
+pub(crate) fn hold_job(bytes: &[u8], occupants: &mut [Occupant; 16384]) -> Result<Held, Refused>
+    requires { Bare occupants.old }
+    ensures { IsHeld bytes.now occupants.new result }
+{
+    let read = read_job(bytes, occupants)?;
+    Ok(held_of(read.head, read.layers))
 }
 
-pub(crate) fn room_for(vertices: usize, need: usize, map: &[u16], work: &[u64]) -> Room
-    ensures { result ≡ room_answer (room_for vertices need map.now work.now) }
+// Both slices are long enough; else the need is told.
+pub(crate) fn room_for(
+    vertices: usize,
+    need: usize,
+    map: &[u16],
+    work: &[u64],
+) -> Result<(), Refused>
+    ensures { read_of result ≡ room_for vertices need map.now work.now }
 {
     if map.len() < vertices {
-        return Room::Short(12, vertices);
+        return Err(Refusal::ShortMap.at(vertices));
     }
     if work.len() < need {
-        return Room::Short(13, need);
+        return Err(Refusal::ShortWork.at(need));
     }
-    Room::Enough
+    Ok(())
 }

@@ -1,16 +1,17 @@
 // Replay: the map and the totals of a plan, or its refusal.
 ghost use Rattle.std.specs.Prelude.{◌≡◌, ◌↔◌};
-ghost use Rattle.router.specs.Replay.{refused_replay, replay_of, Accepts};
+ghost use Rattle.router.specs.Replay.{replay_of, Accepts};
 ghost use Rattle.counts.specs.Structs.{CountsFit};
-ghost use Rattle.router.specs.Held.{replay_leaves, JobHeld, CountsHeld, IsResult};
+ghost use Rattle.router.specs.Held.{replay_answer, replay_leaves, CountsHeld};
 
-use crate::held::{Held, Room, held_of, room_for};
+use crate::held::{hold_job, room_for};
+use job::refusal::Refused;
 use metal::zeros::zero_words;
-use occupants::reached::Reached;
-use reader::whole::read_job;
-use replay::whole::{Replayed, replay_plan};
+use occupants::occupant::Occupant;
+use replay::whole::replay_plan;
+use rules::totals::Totals;
 
-// On a refusal every number but it and its place is 0.
+// For C: a refusal is its number, 0 for none, and on one every other number but its place is 0.
 #[repr(C)]
 #[derive(Clone, Copy)]
 pub struct ReplayResult {
@@ -22,89 +23,52 @@ pub struct ReplayResult {
     pub joined: usize,
 }
 
-pub(crate) fn refused_replay(refusal: usize, place: usize) -> ReplayResult
-    ensures { result ≡ refused_replay refusal place }
-{
-    ReplayResult {
-        refusal,
-        place,
-        cost: 0,
-        added: 0,
-        penalties: 0,
-        joined: 0,
-    }
-}
+impl From<Result<Totals, Refused>> for ReplayResult {
+    ghost from_gives = { λ totals answer. answer ≡ replay_answer totals };
 
-fn result_of(replayed: Replayed) -> ReplayResult
-    ensures { IsResult replayed result }
-{
-    match replayed {
-        Replayed::Refused(refusal, place) => refused_replay(refusal, place),
-        Replayed::Good(totals) => ReplayResult {
-            refusal: 0,
-            place: 0,
-            cost: totals.cost,
-            added: totals.added,
-            penalties: totals.penalties,
-            joined: totals.joined,
-        },
-    }
-}
-
-// A job that was read: the slices are tested, then the plan is read.
-fn replay_job(
-    bytes: &[u8],
-    plan: &[u8],
-    map: &mut [u16],
-    work: &mut [u64],
-    counts: &mut [usize; 48],
-    occupants: &[u8; 16384],
-    held: Held,
-) -> ReplayResult
-    requires { (JobHeld bytes.now occupants.now held) × (CountsFit 0 counts.old) }
-    ensures outcome { replay_leaves result map.new work.new
-        ≡ replay_of bytes.now plan.now map.old work.old }
-    ensures counts { CountsHeld bytes.now plan.now map.old work.old counts.old counts.new }
-{
-    let room = room_for(held.vertices, held.work, map, work);
-    match room {
-        Room::Short(refusal, need) => refused_replay(refusal, need),
-        Room::Enough => {
-            zero_words(work, held.work);
-            let tech = held.tech;
-            let replayed = replay_plan(
-                bytes, tech, occupants, map, counts, plan, held.nets, held.from,
-            );
-            result_of(replayed)
+    fn from(totals: Result<Totals, Refused>) -> ReplayResult {
+        match totals {
+            Ok(totals) => ReplayResult {
+                refusal: 0,
+                place: 0,
+                cost: totals.cost,
+                added: totals.added,
+                penalties: totals.penalties,
+                joined: totals.joined,
+            },
+            Err(refused) => ReplayResult {
+                refusal: refused.refusal.number(),
+                place: refused.place,
+                cost: 0,
+                added: 0,
+                penalties: 0,
+                joined: 0,
+            },
         }
     }
 }
 
-// The job is read, then the plan, and its moves are counted.
+// The job is read and the slices are tested; then the plan is read, and its moves are counted.
 pub(crate) fn replay_counted(
     bytes: &[u8],
     plan: &[u8],
     map: &mut [u16],
     work: &mut [u64],
     counts: &mut [usize; 48],
-) -> ReplayResult
+) -> Result<Totals, Refused>
     requires { CountsFit 0 counts.old }
-    ensures outcome { replay_leaves result map.new work.new
+    ensures outcome { replay_leaves (replay_answer result) map.new work.new
         ≡ replay_of bytes.now plan.now map.old work.old }
     ensures counts { CountsHeld bytes.now plan.now map.old work.old counts.old counts.new }
 {
-    let mut occupants = [0u8; 16384];
-    let read = read_job(bytes, &mut occupants);
-    let reached = read.reached;
-    match reached {
-        Reached::Refused(refusal, place) => refused_replay(refusal, place),
-        Reached::At(_end) => {
-            let head = read.head;
-            let layers = read.layers;
-            let held = held_of(head, layers);
-            replay_job(bytes, plan, map, work, counts, &occupants, held)
-        }
-    }
+    let mut occupants = [Occupant::Free; 16384];
+    let held = hold_job(bytes, &mut occupants)?;
+    room_for(held.vertices, held.work, map, work)?;
+    zero_words(work, held.work);
+    let tech = held.tech;
+    replay_plan(
+        bytes, tech, &occupants, map, counts, plan, held.nets, held.from,
+    )
 }
 
 // The counts are the report's: replay drops them.
@@ -120,5 +84,5 @@ pub fn maizespell_replay(
     ensures accepts { (result.refusal ≡ 0) ↔ Accepts bytes.now plan.now map.old work.old }
 {
     let mut counts: [usize; 48] = [0; 48];
-    replay_counted(bytes, plan, map, work, &mut counts)
+    ReplayResult::from(replay_counted(bytes, plan, map, work, &mut counts))
 }

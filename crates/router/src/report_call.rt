@@ -1,24 +1,29 @@
 // The wire report: replay, and where it accepts, the plan's counts added to a report.
-ghost use Rattle.std.specs.Prelude.{◌≡◌, length};
-ghost use Rattle.counts.specs.Reports.{room_in};
-ghost use Rattle.counts.specs.Structs.{plus, left_of};
-ghost use Rattle.router.specs.Report.{report_result, report_of, CountsPayIn};
+ghost use Rattle.std.specs.Prelude.{◌≡◌};
+ghost use Rattle.router.specs.Held.{replay_answer, report_leaves};
+ghost use Rattle.router.specs.Report.{report_of, CountsPayIn};
 
-use crate::replay_call::{ReplayResult, refused_replay, replay_counted};
-use counts::report::{Added, add_counts};
+use crate::replay_call::{ReplayResult, replay_counted};
+use counts::report::add_counts;
+use job::refusal::Refused;
+use rules::totals::Totals;
 
-// The counts of a plan that replay accepted: all are added; or none, and 19.
-fn report_counts(report: &mut [u64], counts: &[usize; 48], res: ReplayResult) -> ReplayResult
-    requires { length counts.now ≡ 48 }
-    ensures res { result ≡ report_result res (room_in report.old (plus report.old counts.now)) }
-    ensures report { report.new ≡ left_of report.old (plus report.old counts.now)
-        (room_in report.old (plus report.old counts.now)) }
+// The counts of a plan that replay accepts are added: all, or none where the report has no room.
+fn report_counted(
+    bytes: &[u8],
+    plan: &[u8],
+    map: &mut [u16],
+    work: &mut [u64],
+    report: &mut [u64],
+) -> Result<Totals, Refused>
+    ensures { report_leaves (replay_answer result) map.new work.new report.new
+        ≡ report_of bytes.now plan.now map.old work.old report.old }
 {
-    let added = add_counts(report, counts);
-    match added {
-        Added::Refused(refusal, place) => refused_replay(refusal, place),
-        Added::Whole => res,
-    }
+    let mut counts: [usize; 48] = [0; 48];
+    let replayed = replay_counted(bytes, plan, map, work, &mut counts);
+    let totals = replayed?;
+    add_counts(report, &counts)?;
+    Ok(totals)
 }
 
 pub fn maizespell_report(
@@ -34,11 +39,5 @@ pub fn maizespell_report(
     ensures report { report.new ≡ (report_of bytes.now plan.now map.old work.old report.old).report }
     ensures pays { CountsPayIn bytes.now plan.now map.old work.old result }
 {
-    let mut counts: [usize; 48] = [0; 48];
-    let result = replay_counted(bytes, plan, map, work, &mut counts);
-    let refusal = result.refusal;
-    if refusal != 0 {
-        return result;
-    }
-    report_counts(report, &counts, result)
+    ReplayResult::from(report_counted(bytes, plan, map, work, report))
 }

@@ -5,17 +5,17 @@ ghost use Rattle.job.specs.Reading.{good, read_job};
 ghost use Rattle.plan.specs.Claim.{Cheapest, ByTies};
 ghost use Rattle.job.specs.Slices.{zeroed};
 ghost use Rattle.walker.specs.Structs.{totals_of};
-ghost use Rattle.router.specs.Held.{JobHeld, routing_leaves};
+ghost use Rattle.router.specs.Held.{routing_answer, routing_leaves};
 ghost use Rattle.router.specs.Routing.{refused_routing, total_result, routing_of};
 
-use crate::held::{Held, Room, held_of, room_for};
+use crate::held::{hold_job, room_for};
+use job::refusal::{Refusal, Refused};
 use metal::zeros::{zero_bytes, zero_codes, zero_words};
-use occupants::reached::Reached;
-use reader::whole::read_job;
+use occupants::occupant::Occupant;
 use routing::whole::route_plan;
 use rules::totals::Totals;
 
-// On a refusal every number but it and its place is 0.
+// For C: a refusal is its number, 0 for none, and on one every other number but its place is 0.
 #[repr(C)]
 #[derive(Clone, Copy)]
 pub struct RoutingResult {
@@ -28,17 +28,37 @@ pub struct RoutingResult {
     pub joined: usize,
 }
 
-fn refused_routing(refusal: usize, place: usize) -> RoutingResult
-    ensures { result ≡ refused_routing refusal place }
-{
-    RoutingResult {
-        refusal,
-        place,
-        bytes: 0,
-        cost: 0,
-        added: 0,
-        penalties: 0,
-        joined: 0,
+// How many bytes a plan has, and what its joins come to.
+#[derive(Clone, Copy)]
+pub(crate) struct Planned {
+    pub bytes: usize,
+    pub totals: Totals,
+}
+
+impl From<Result<Planned, Refused>> for RoutingResult {
+    ghost from_gives = { λ planned answer. answer ≡ routing_answer planned };
+
+    fn from(planned: Result<Planned, Refused>) -> RoutingResult {
+        match planned {
+            Ok(planned) => RoutingResult {
+                refusal: 0,
+                place: 0,
+                bytes: planned.bytes,
+                cost: planned.totals.cost,
+                added: planned.totals.added,
+                penalties: planned.totals.penalties,
+                joined: planned.totals.joined,
+            },
+            Err(refused) => RoutingResult {
+                refusal: refused.refusal.number(),
+                place: refused.place,
+                bytes: 0,
+                cost: 0,
+                added: 0,
+                penalties: 0,
+                joined: 0,
+            },
+        }
     }
 }
 
@@ -47,59 +67,48 @@ fn end_routing(
     map: &mut [u16],
     plan: &mut [u8],
     vertices: usize,
-    totals: Totals,
-    bytes: usize,
-) -> RoutingResult
+    planned: Planned,
+) -> Result<Planned, Refused>
     requires { vertices ≤ length map.old }
-    ensures result { result ≡ cond (ltb (length plan.old) bytes) (refused_routing 14 bytes) (total_result bytes (totals_of totals)) }
-    ensures map { map.new ≡ cond (ltb (length plan.old) bytes) (zeroed vertices map.old) map.old }
+    ensures result { routing_answer result ≡ cond (ltb (length plan.old) planned.bytes) (refused_routing 14 planned.bytes)
+        (total_result planned.bytes (totals_of planned.totals)) }
+    ensures map { map.new ≡ cond (ltb (length plan.old) planned.bytes) (zeroed vertices map.old) map.old }
     ensures plan { plan.new
-        ≡ cond (ltb (length plan.old) bytes) (zeroed (length plan.old) plan.old) plan.old }
+        ≡ cond (ltb (length plan.old) planned.bytes) (zeroed (length plan.old) plan.old) plan.old }
 {
     let room = plan.len();
-    let need = bytes;
+    let need = planned.bytes;
     if room < need {
         zero_codes(map, vertices);
         zero_bytes(plan, room);
-        return refused_routing(14, bytes);
+        return Err(Refusal::ShortPlan.at(planned.bytes));
     }
-    RoutingResult {
-        refusal: 0,
-        place: 0,
-        bytes,
-        cost: totals.cost,
-        added: totals.added,
-        penalties: totals.penalties,
-        joined: totals.joined,
-    }
+    Ok(planned)
 }
 
-// A job that was read: the slices are tested, then it is routed, and then the plan slice is tested.
+// The job is read and the slices are tested; then it is routed, and then the plan slice is tested.
 fn route_job(
     bytes: &[u8],
     map: &mut [u16],
     work: &mut [u64],
     plan: &mut [u8],
-    occupants: &[u8; 16384],
-    held: Held,
-) -> RoutingResult
-    requires { JobHeld bytes.now occupants.now held }
-    ensures { routing_leaves result map.new work.new plan.new
+) -> Result<Planned, Refused>
+    ensures { routing_leaves (routing_answer result) map.new work.new plan.new
         ≡ routing_of bytes.now map.old work.old plan.old }
 {
-    let room = room_for(held.vertices, held.work, map, work);
-    match room {
-        Room::Short(refusal, need) => refused_routing(refusal, need),
-        Room::Enough => {
-            zero_words(work, held.work);
-            let tech = held.tech;
-            let routed = route_plan(
-                bytes, tech, occupants, map, work, plan, held.nets, held.from,
-            );
-            let totals = routed.totals;
-            end_routing(map, plan, held.vertices, totals, (routed.bits + 7) / 8)
-        }
-    }
+    let mut occupants = [Occupant::Free; 16384];
+    let held = hold_job(bytes, &mut occupants)?;
+    room_for(held.vertices, held.work, map, work)?;
+    zero_words(work, held.work);
+    let tech = held.tech;
+    let routed = route_plan(
+        bytes, tech, &occupants, map, work, plan, held.nets, held.from,
+    );
+    let planned = Planned {
+        bytes: (routed.bits + 7) / 8,
+        totals: routed.totals,
+    };
+    end_routing(map, plan, held.vertices, planned)
 }
 
 pub fn maizespell_routing(
@@ -117,16 +126,5 @@ pub fn maizespell_routing(
     ensures ties { result.refusal ≡ 0
         → (j : Job) × (read_job bytes.now ≡ good j) × ByTies j (take result.bytes plan.new) }
 {
-    let mut occupants = [0u8; 16384];
-    let read = read_job(bytes, &mut occupants);
-    let reached = read.reached;
-    match reached {
-        Reached::Refused(refusal, place) => refused_routing(refusal, place),
-        Reached::At(_end) => {
-            let head = read.head;
-            let layers = read.layers;
-            let held = held_of(head, layers);
-            route_job(bytes, map, work, plan, &occupants, held)
-        }
-    }
+    RoutingResult::from(route_job(bytes, map, work, plan))
 }

@@ -1,10 +1,11 @@
 // Sizing: how many vertices a job has, and how much work memory its routing needs.
 ghost use Rattle.std.specs.Prelude.{◌≡◌};
+ghost use Rattle.router.specs.Held.{sizing_answer};
 ghost use Rattle.router.specs.Sizing.{sizing_of};
 
-use crate::held::held_of;
-use occupants::reached::Reached;
-use reader::whole::read_job;
+use crate::held::{Held, hold_job};
+use job::refusal::Refused;
+use occupants::occupant::Occupant;
 
 // The refusal is 0 where the job is good, and so is its place; else vertices and work are 0.
 #[repr(C)]
@@ -16,29 +17,30 @@ pub struct SizingResult {
     pub work: usize,
 }
 
-pub fn maizespell_sizing(bytes: &[u8]) -> SizingResult
-    ensures { result ≡ sizing_of bytes.now }
-{
-    let mut occupants = [0u8; 16384];
-    let read = read_job(bytes, &mut occupants);
-    let reached = read.reached;
-    match reached {
-        Reached::At(_) => {
-            let head = read.head;
-            let layers = read.layers;
-            let held = held_of(head, layers);
-            SizingResult {
+impl From<Result<Held, Refused>> for SizingResult {
+    ghost from_gives = { λ held answer. answer ≡ sizing_answer held };
+
+    fn from(held: Result<Held, Refused>) -> SizingResult {
+        match held {
+            Ok(held) => SizingResult {
                 refusal: 0,
                 place: 0,
                 vertices: held.vertices,
                 work: held.work,
-            }
+            },
+            Err(refused) => SizingResult {
+                refusal: refused.refusal.number(),
+                place: refused.place,
+                vertices: 0,
+                work: 0,
+            },
         }
-        Reached::Refused(refusal, place) => SizingResult {
-            refusal,
-            place,
-            vertices: 0,
-            work: 0,
-        },
     }
+}
+
+pub fn maizespell_sizing(bytes: &[u8]) -> SizingResult
+    ensures { result ≡ sizing_of bytes.now }
+{
+    let mut occupants = [Occupant::Free; 16384];
+    SizingResult::from(hold_job(bytes, &mut occupants))
 }

@@ -35,10 +35,9 @@ use Rattle.tree.proofs.Spots.{some_one}
 use Rattle.walker.specs.Entering.{Arrays, gone_at, Entered, entered, enter_all, left_in}
 use Rattle.walker.specs.Standing.{AtNet}
 use Rattle.walker.specs.Structs.{IsEntered, WalkFits, totals_of}
-use Rattle.walker.specs.declared.Walk.{Walk}
 use Rattle.joins.specs.Joined.{left_by, IsJoined, JoinedFits, Written}
 use Rattle.joins.specs.declared.join.Joined.{Joined}
-use Rattle.joins.specs.declared.join.Joined.TheVariants as Joins
+use Rattle.std.proofs.Common.{Option, Some, None}
 use Rattle.routing.specs.Structs.{NetHere, IsRouted}
 use Rattle.routing.specs.declared.routed.Routed.{Routed as RoutedStruct}
 use Rattle.rules.proofs.Routes.{route_more}
@@ -82,7 +81,7 @@ module _ (tech : TechStruct) (view : View) (net : ℕ) (pins : List ℕ) (count 
   NetAnswers = Answers tech view net pins count from before first found
 
   module _ {spots codes plan : List ℕ} {totals : TotalsStruct} {bits left : ℕ} (so_far : NetRecording spots codes plan totals bits left) (sixteen : count ≤ 16)
-      (some : 0 < left) (unjoined : some_unjoined spots pins ≡ true) (answer : Joined) (spots' codes' plan' : List ℕ) where
+      (some : 0 < left) (unjoined : some_unjoined spots pins ≡ true) (answer : Option Joined) (spots' codes' plan' : List ℕ) where
     -- what the search says of a record, with the layers that the code holds
     abbrev Says : Tech → Type 0
     Says t =
@@ -122,11 +121,11 @@ module _ (tech : TechStruct) (view : View) (net : ℕ) (pins : List ℕ) (count 
               (some_one j.grid t.now.tree t.now.unjoined pins spots t.here.apart.no_goal h.below t.here.stood.spots unjoined))
 
       -- none
-      none_routed : answer ≡ Joins.None → IsRouted j (route_net j k count s (totals_of before)) from (record { totals = totals; bits = bits + 1 }) found plan' first.codes codes'
+      none_routed : answer ≡ None → IsRouted j (route_net j k count s (totals_of before)) from (record { totals = totals; bits = bits + 1 }) found plan' first.codes codes'
       unfolding IsJoined left_by by_record with_entries record_bits tech_of put_bits
-      none_routed told = by written refl (subst (λ (a : Joined). IsJoined (tech_of j) view net bits arrays a written) told said.joined)
+      none_routed told = by written refl (subst (λ (a : Option Joined). IsJoined (tech_of j) view net bits arrays a written) told said.joined)
         where
-          by : (r : Record) → written ≡ r → IsJoined (tech_of j) view net bits arrays Joins.None r
+          by : (r : Record) → written ≡ r → IsJoined (tech_of j) view net bits arrays None r
               → IsRouted j (route_net j k count s (totals_of before)) from (record { totals = totals; bits = bits + 1 }) found plan' first.codes codes'
           by none e is =
               let whole = one_more ∙ ap (λ (r : Record). with_entries t.done (by_record j k t.now (totals_of totals) (route_net j k (left - 1)) r)) e in
@@ -144,13 +143,13 @@ module _ (tech : TechStruct) (view : View) (net : ℕ) (pins : List ℕ) (count 
           by (join start moves cost) e is = absurd is
 
       -- a join
-      join_told : {w : Walk} {next : ℕ} {more : TotalsStruct} → answer ≡ Joins.Join w next
-          → more ≡ record { cost = totals.cost + w.cost; added = totals.added + w.added; penalties = totals.penalties + w.penalties; joined = totals.joined }
-          → NetTold j k s spots' codes' plan' more next (left - 1)
+      join_told : {joined : Joined} {more : TotalsStruct} → answer ≡ Some joined
+          → more ≡ record { cost = totals.cost + joined.walk.cost; added = totals.added + joined.walk.added; penalties = totals.penalties + joined.walk.penalties; joined = totals.joined }
+          → NetTold j k s spots' codes' plan' more joined.next (left - 1)
       unfolding IsJoined left_by left_in IsEntered by_record with_entries with_join after_join tech_of put_bits
-      join_told {w} {next} {more} told summed = by written refl (subst (λ (a : Joined). IsJoined (tech_of j) view net bits arrays a written) told said.joined)
+      join_told {joined} {more} told summed = by written refl (subst (λ (a : Option Joined). IsJoined (tech_of j) view net bits arrays a written) told said.joined)
         where
-          by : (r : Record) → written ≡ r → IsJoined (tech_of j) view net bits arrays (Joins.Join w next) r → NetTold j k s spots' codes' plan' more next (left - 1)
+          by : (r : Record) → written ≡ r → IsJoined (tech_of j) view net bits arrays (Some joined) r → NetTold j k s spots' codes' plan' more joined.next (left - 1)
           by none e is = absurd is
           by (join start moves cost) e (nexts, walked) =
               let made = join_made h.rules k view pins t.now arrays t.here e in
@@ -188,7 +187,7 @@ module _ (tech : TechStruct) (view : View) (net : ℕ) (pins : List ℕ) (count 
               }
 
     -- a record that says none
-    pub recording_none : Says (tech_by tech) → answer ≡ Joins.None → NetAnswers (record { totals = totals; bits = bits + 1 }) plan' codes'
+    pub recording_none : Says (tech_by tech) → answer ≡ None → NetAnswers (record { totals = totals; bits = bits + 1 }) plan' codes'
     recording_none says told =
         let b = so_far.bounded in (
           λ j k s h. none_routed says j k s h told,
@@ -203,13 +202,13 @@ module _ (tech : TechStruct) (view : View) (net : ℕ) (pins : List ℕ) (count 
 
     -- a join, and the totals with it
     pub recording_on : Says (tech_by tech) → JoinedFits (bits + 2 ^ 22) answer → length codes' ≡ length codes → length plan' ≡ length plan
-        → {w : Walk} {next : ℕ} {more : TotalsStruct} → answer ≡ Joins.Join w next
-        → more ≡ record { cost = totals.cost + w.cost; added = totals.added + w.added; penalties = totals.penalties + w.penalties; joined = totals.joined }
-        → NetRecording spots' codes' plan' more next (left - 1)
+        → {joined : Joined} {more : TotalsStruct} → answer ≡ Some joined
+        → more ≡ record { cost = totals.cost + joined.walk.cost; added = totals.added + joined.walk.added; penalties = totals.penalties + joined.walk.penalties; joined = totals.joined }
+        → NetRecording spots' codes' plan' more joined.next (left - 1)
     unfolding JoinedFits
-    recording_on says fits size long {w} {next} told summed =
+    recording_on says fits size long {joined} told summed =
         let b = so_far.bounded in
-        let fit : WalkFits w × (next ≤ bits + 2 ^ 22) = rw told at fits in
+        let fit : WalkFits joined.walk × (joined.next ≤ bits + 2 ^ 22) = rw told at fits in
         record {
           told = λ j k s h. join_told says j k s h told summed;
           bounded = rw summed (record {

@@ -10,10 +10,10 @@ ghost use Rattle.routing.specs.Structs.{IsRouted};
 
 use crate::net::route_net;
 use crate::routed::Routed;
+use occupants::occupant::Occupant;
 use reader::load::load_net;
-use rules::list::fill_prices;
+use rules::list::prices_of;
 use rules::price::Tech;
-use rules::totals::no_totals;
 use views::sight::see_net;
 use walker::NetAtHand;
 
@@ -21,7 +21,7 @@ use walker::NetAtHand;
 pub fn route_nets(
     s: &[u8],
     tech: Tech,
-    occupants: &[u8; 16384],
+    occupants: &[Occupant; 16384],
     map: &mut [u16],
     work: &mut [u64],
     plan: &mut [u8],
@@ -38,17 +38,11 @@ pub fn route_nets(
     let mut pins: [usize; 16] = [0; 16];
     let mut boxes: [u8; 90] = [0; 90];
     let mut position = from;
-    let mut routed = Routed {
-        totals: no_totals(),
-        bits: 0,
-    };
-    let mut net: u16 = 0;
-    let mut left = nets;
-    let mut prices: [usize; 40] = [0; 40];
-    fill_prices(&mut prices, tech);
-    while 0 < left {
+    let mut routed = Routed::default();
+    let prices = prices_of(tech);
+    for index in 0..nets {
         let loaded = load_net(s, tech.grid, position, &mut pins, &mut boxes);
-        net += 1;
+        let net = index as u16 + 1;
         see_net(
             &mut seen,
             occupants,
@@ -64,9 +58,8 @@ pub fn route_nets(
             number: net,
             pins: loaded.pins,
         };
-        routed = route_net(tech, &prices, &seen, map, work, plan, hand, &pins, routed);
+        routed = route_net(&prices, &seen, map, work, plan, hand, &pins, routed);
         position = loaded.next;
-        left -= 1;
     }
     routed
 }

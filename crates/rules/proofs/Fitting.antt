@@ -7,9 +7,9 @@
 --     entered_outside, entered_at    what was entered, from the code's form
 use Prim.Native.Nat.{ℕ, zero, suc, ◌+◌, ◌-◌, ◌*◌, ◌≤◌, ◌<◌}
 use mathlib.Core.Path.{◌≡◌, refl, ap, ◌∙◌}
-use mathlib.Core.List.{List}
 use mathlib.Core.Bool.{Bool, true, false, cond}
 use native.Mathlib.Omega.{arith}
+use Rattle.std.proofs.Common.{Some, None}
 use lib.Dec.{ltb}
 use Rattle.job.specs.Grid.{Grid, steps_column, stride_of}
 use Rattle.job.specs.Structs.{Small, grid_of, vertex_of, vertex_struct}
@@ -17,10 +17,10 @@ use Rattle.job.specs.declared.grid.Grid.{Grid as GridStruct}
 use Rattle.job.specs.declared.grid.Vertex.{Vertex as VertexStruct}
 use Rattle.job.proofs.Sizes.{product_within, small_vertices}
 use Rattle.rules.specs.Tracks.{layer_of, vertex_by, track_index, track_length, Entered, outside, at, if_there, entered}
-use Rattle.rules.specs.Structs.{OnGrid, entered_of, track_of, Here}
-use Rattle.rules.specs.declared.track.Entered.TheVariants.{Outside, At}
+use Rattle.rules.specs.Structs.{OnGrid, entered_of, track_of}
+use Rattle.rules.specs.Charging.{Here}
 use Rattle.rules.specs.declared.track.Track.{Track}
-use Rattle.rules.specs.declared.price.Tech.{Tech as TechStruct}
+use Rattle.rules.specs.declared.price.Prices.{Prices}
 use Rattle.rules.proofs.Vertices.{vertex_below}
 use Rattle.rules.proofs.Neighbours.{index_below, low_enters, down_enters}
 
@@ -125,20 +125,20 @@ pub track_known : {g : GridStruct} {v : ℕ} {track : Track} → OnGrid g v → 
 track_known {g} {v} on is = track_read g v on refl is
 
 -- a vertex's layer, as the code has read it, is below 8
-pub layer_known : {t : TechStruct} {prices : List ℕ} {v : ℕ} {from : VertexStruct} → Here t prices v from → from.layer < 8
-layer_known {t} {v = v} h =
-    rw h.is (fits t.grid v (record { small = h.fits.sized.small; there = h.there })).layer
+pub layer_known : {p : Prices} {v : ℕ} {from : VertexStruct} → Here p v from → from.layer < 8
+layer_known {p} {v} h =
+    rw h.is (fits p.tech.grid v (record { small = p.fits.sized.small; there = h.there })).layer
 
 -- ---- what was entered, from the code's form
 
 -- nothing
-pub entered_outside : (e : Entered) → entered_of e ≡ Outside → e ≡ outside
+pub entered_outside : (e : Entered) → entered_of e ≡ None → e ≡ outside
 unfolding entered_of
 entered_outside outside h = refl
 entered_outside (at w) h = cc
 
 -- a vertex
-pub entered_at : (e : Entered) {w : ℕ} → entered_of e ≡ At w → e ≡ at w
+pub entered_at : (e : Entered) {w : ℕ} → entered_of e ≡ Some w → e ≡ at w
 unfolding entered_of
 entered_at outside h = cc
 entered_at (at v) h = cc

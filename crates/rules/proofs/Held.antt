@@ -15,7 +15,7 @@ use Rattle.job.specs.Grid.{Grid, vertices}
 use Rattle.job.specs.Job.{Layer, closed_price}
 use Rattle.job.specs.Good.{GoodLayer}
 use Rattle.job.specs.Structs.{grid_of, layer_struct, penalty_of}
-use Rattle.job.specs.declared.layers.Layers.{Layers}
+use Rattle.job.specs.declared.groups.Layer.{Layer as LayerStruct}
 use Rattle.job.specs.declared.penalty.Penalty.TheVariants.{Closed, Price}
 use Rattle.paths.specs.Costs.{fin, inf}
 use Rattle.rules.specs.Tracks.{layer_of}
@@ -57,7 +57,7 @@ module _ (g : Grid) (seen : List ℕ) (v : ℕ) (h : v < vertices g) where
 -- ---- the layer line of a vertex
 
 -- a line among n from one on
-from_at : (ls : Layers) (from n k : ℕ) (d : Layer) → k < n → get_or (lines_from ls from n) k d ≡ line_record (line_at ls (from + k))
+from_at : (ls : List LayerStruct) (from n k : ℕ) (d : Layer) → k < n → get_or (lines_from ls from n) k d ≡ line_record (line_at ls (from + k))
 unfolding lines_from
 from_at ls from zero k d h = absurd (not-suc-le-zero h)
 from_at ls from (suc n) zero d h = let e : from ≡ from + 0 = omega arith in ap (λ (i : ℕ). line_record (line_at ls i)) e

@@ -1,4 +1,5 @@
 -- Routing a net, one record at a time.
+--     totals_none    the totals of which each is 0
 --     route_all      every pin is joined: no record
 --     route_more     a pin is unjoined: the join of what stands, or none, and what follows
 use Prim.Native.Nat.{ℕ, zero, suc}
@@ -10,6 +11,12 @@ use Rattle.rules.specs.Prices.{tech_of}
 use Rattle.rules.specs.Standings.{Standing}
 use Rattle.rules.specs.Joins.{join_of}
 use Rattle.rules.specs.Routings.{Totals, with_net, by_record, route_net}
+use Rattle.rules.specs.declared.totals.Totals.{Totals as TotalsStruct}
+
+-- each of the totals is 0
+pub totals_none : {t : TotalsStruct} → (t.cost ≡ 0) × ((t.added ≡ 0) × ((t.penalties ≡ 0) × (t.joined ≡ 0)))
+    → t ≡ record { cost = 0; added = 0; penalties = 0; joined = 0 }
+totals_none h = λ i. record { cost = h.0 i; added = h.1.0 i; penalties = h.1.1.0 i; joined = h.1.1.1 i }
 
 -- every pin is joined
 pub route_all : (j : Job) (k n : ℕ) (s : Standing) (totals : Totals) → s.unjoined ≡ []

@@ -1,10 +1,12 @@
 -- What the code's steps mean.
+--     extension_none                                              an extension with no vertex
 --     along_back, along_to                                        a step along the track
 --     owed_nothing, _lengthened, _penalised, _forbidden, _closed  a via move, by what it owes
 --     step_shut, step_open                                        one move
 use Prim.Native.Nat.{ℕ, ◌*◌}
 use mathlib.Core.Path.{◌≡◌, refl, sym, ap, ◌∙◌}
 use native.Mathlib.Omega.{arith}
+use Rattle.std.proofs.Common.{Option, Some, None}
 use Rattle.job.specs.Grid.{Grid}
 use Rattle.job.specs.declared.groups.Layer.{Layer as LayerStruct}
 use Rattle.paths.specs.Costs.{fin, inf}
@@ -21,9 +23,15 @@ use Rattle.rules.specs.declared.segment.Segment.{Segment as SegmentEnum}
 use Rattle.rules.specs.declared.overhead.Extension.{Extension as ExtensionStruct}
 use Rattle.rules.specs.declared.overhead.Overhead.{Overhead as OverheadEnum}
 use Rattle.rules.specs.declared.overhead.Overhead.TheVariants.{Nothing, Lengthened, Penalised, Forbidden}
-use Rattle.rules.specs.declared.step.Entry.TheVariants.{Shut, Open}
-use Rattle.rules.specs.declared.step.Stepped.{Stepped as SteppedEnum}
-use Rattle.rules.specs.declared.step.Stepped.TheVariants.{Illegal, Legal}
+use Rattle.rules.specs.declared.step.Entry.{Entry}
+use Rattle.rules.specs.declared.step.Made.{Made as MadeStruct}
+
+-- ---- an extension
+
+-- none was made
+pub extension_none : {e : ExtensionStruct} → (e.leaving ≡ 0) × (e.starting ≡ 0) → e ≡ no_extension
+unfolding no_extension
+extension_none h = λ i. record { leaving = h.0 i; starting = h.1 i }
 
 -- ---- a step along the track
 
@@ -34,14 +42,14 @@ none_whole g view p = record { leaving = refl; starting = refl }
 
 module _ (least : ℕ) (d : Direction) (s : Segment) (w enter : ℕ) where
   -- against the one before it
-  pub along_back : grow least d s ≡ back → IsSteppedAnywhere Illegal (stepping w enter (grow least d s))
+  pub along_back : grow least d s ≡ back → IsSteppedAnywhere None (stepping w enter (grow least d s))
   unfolding stepping stepped_by WholeStep
   along_back e g view u = record { same = rw e refl; whole = tt }
 
   -- or along it
   pub along_to : {to : SegmentEnum} {none : ExtensionStruct} → none ≡ no_extension → grow least d s ≡ grown (segment_of to)
       → IsSteppedAnywhere
-      (Legal (record { next = record { vertex = w; segment = to }; enter = enter; over = 0; extension = none; added = 0; penalties = 0 }))
+      (Some (record { next = record { vertex = w; segment = to }; enter = enter; over = 0; extension = none; added = 0; penalties = 0 }))
       (stepping w enter (grow least d s))
   unfolding stepping stepped_by made_by WholeStep no_extension laid_by clear_run
   along_to n e g view u = rw n (record { same = rw e refl; whole = record { few = omega arith; whole = none_whole g view u } })
@@ -53,7 +61,7 @@ module _ (g : Grid) (view : View) (p : Place) (w enter : ℕ) (o : Overhead) (li
   abbrev Owes : OverheadEnum → Type 0
   Owes r = IsOverhead line.wire line.area g view p r o
 
-  abbrev Leaves : SteppedEnum → Type 0
+  abbrev Leaves : Option MadeStruct → Type 0
   Leaves r = IsStepped g view p r (leaving w enter o)
 
   -- that owes nothing
@@ -81,12 +89,12 @@ module _ (g : Grid) (view : View) (p : Place) (w enter : ℕ) (o : Overhead) (li
       rw (n, price) (record { same = rw (← owes.same) refl; whole = record { few = omega arith; whole = none_whole g view p } })
 
   -- that is forbidden
-  pub owed_forbidden : Owes Forbidden → Leaves Illegal
+  pub owed_forbidden : Owes Forbidden → Leaves None
   unfolding leaving overhead_by stepped_by WholeStep
   owed_forbidden owes = record { same = rw (← owes.same) refl; whole = tt }
 
   -- what costs nothing that can be paid is forbidden
-  pub owed_closed : (r : OverheadEnum) → Owes r → inf ≡ overhead_cost line r → Leaves Illegal
+  pub owed_closed : (r : OverheadEnum) → Owes r → inf ≡ overhead_cost line r → Leaves None
   unfolding overhead_cost
   owed_closed Nothing owes costs = absurd (inf_not_fin costs)
   owed_closed (Lengthened n e) owes costs = absurd (inf_not_fin costs)
@@ -96,16 +104,16 @@ module _ (g : Grid) (view : View) (p : Place) (w enter : ℕ) (o : Overhead) (li
 -- ---- one move
 
 module _ (t : Tech) (view : View) (p : Place) (m : ℕ) where
-  abbrev Steps : SteppedEnum → Type 0
+  abbrev Steps : Option MadeStruct → Type 0
   Steps r = IsStepped t.grid view p r (step t view p m)
 
   -- a move that may enter nothing
-  pub step_shut : entry_of t view p.vertex m ≡ Shut → Steps Illegal
+  pub step_shut : entry_of t view p.vertex m ≡ None → Steps None
   unfolding step_of stepped_by WholeStep
   step_shut e = record { same = sym (step_entry t view p m ∙ ap (step_of t view p m) e); whole = tt }
 
   -- else what its kind asks of the segment
-  pub step_open : {w enter : ℕ} {r : SteppedEnum} → entry_of t view p.vertex m ≡ Open w enter
-      → IsStepped t.grid view p r (by_segment t view p (kind_of m) w enter) → Steps r
+  pub step_open : {e : Entry} {r : Option MadeStruct} → entry_of t view p.vertex m ≡ Some e
+      → IsStepped t.grid view p r (by_segment t view p (kind_of m) e.into e.price) → Steps r
   unfolding step_of
-  step_open e by = record { same = by.same ∙ sym (step_entry t view p m ∙ ap (step_of t view p m) e); whole = by.whole }
+  step_open told by = record { same = by.same ∙ sym (step_entry t view p m ∙ ap (step_of t view p m) told); whole = by.whole }

@@ -14,5 +14,6 @@ pub mod Maps
 pub mod Seen
 pub mod PriceLists
 pub mod Structs
-pub mod Lists
+pub mod Facts
+pub mod Charging
 pub mod Apart

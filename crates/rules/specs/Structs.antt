@@ -1,18 +1,17 @@
 -- The forms in which the code holds vertices and moves.
-use Rattle.std.specs.Prelude.{ℕ, zero, suc, ◌+◌, ◌-◌, ◌*◌, ◌<◌, min, ◌≡◌, List, [], ◌∷◌, ◌++◌, true, false, cond, length, get_or}
+use Rattle.std.specs.Prelude.{ℕ, zero, suc, ◌+◌, ◌-◌, ◌*◌, ◌<◌, min, ◌≡◌, List, [], ◌∷◌, ◌++◌, true, false, cond, length, get_or, Option, Some, None}
 use Rattle.job.specs.Grid.{Grid, Vertex, vertices, steps_column, stride_of}
 use Rattle.job.specs.Job.{Layer, largest_min_length}
-use Rattle.job.specs.Structs.{Small, Sized, grid_of, vertex_struct}
+use Rattle.job.specs.Structs.{Small, Sized, grid_of, no_line}
 use Rattle.paths.specs.Systems.{Step, blocked, to}
 use Rattle.paths.specs.Costs.{Cost, fin, inf}
 use Rattle.rules.specs.Prices.{Tech, entering}
 use Rattle.rules.specs.Places.{GoodTech}
 use Rattle.job.specs.declared.groups.Layer.{Layer as LayerStruct}
-use Rattle.job.specs.declared.layers.Layers.{Layers}
 use Rattle.job.specs.declared.penalty.Penalty.{Penalty}
 use Rattle.job.specs.declared.penalty.Penalty.TheVariants.{Closed, Price}
 use Rattle.rules.specs.declared.price.Tech.{Tech as TechStruct}
-use Rattle.rules.specs.Tracks.{layer_of, vertex_by, track_index, track_length, Entered, outside, at, entered}
+use Rattle.rules.specs.Tracks.{layer_of, track_index, track_length, Entered, outside, at, entered}
 use Rattle.rules.specs.Views.{View}
 use Rattle.rules.specs.Segments.{Direction, low, high, opposite, Kind, along, down, up, Segment, fresh, running, paid, paid_toward, Place, Grown, back, grown}
 use Rattle.rules.specs.Overheads.{clear_run, first_of, Overhead, forbidden, owes, overhead_of}
@@ -20,37 +19,28 @@ use Rattle.rules.specs.declared.segment.Direction.{Direction as DirectionEnum}
 use Rattle.rules.specs.declared.segment.Direction.TheVariants.{Low, High}
 use Rattle.rules.specs.declared.segment.Segment.{Segment as SegmentEnum}
 use Rattle.rules.specs.declared.segment.Segment.TheVariants.{Fresh, Running, Paid, PaidToward}
-use Rattle.rules.specs.declared.segment.Grown.{Grown as GrownEnum}
-use Rattle.rules.specs.declared.segment.Grown.TheVariants as Grow
 use Rattle.rules.specs.Steps.{Made, Stepped, illegal, legal}
 use Rattle.rules.specs.declared.step.Place.{Place as PlaceStruct}
 use Rattle.rules.specs.declared.step.Made.{Made as MadeStruct}
 use Rattle.rules.specs.declared.step.Entry.{Entry}
-use Rattle.rules.specs.declared.step.Entry.TheVariants.{Shut, Open}
-use Rattle.rules.specs.declared.step.Stepped.{Stepped as SteppedEnum}
-use Rattle.rules.specs.declared.step.Stepped.TheVariants.{Illegal, Legal}
 use Rattle.rules.specs.declared.track.Kind.{Kind as KindEnum}
 use Rattle.rules.specs.declared.track.Kind.TheVariants.{Along, Down, Up}
 use Rattle.rules.specs.declared.overhead.Extension.{Extension as ExtensionStruct}
 use Rattle.rules.specs.declared.overhead.Overhead.{Overhead as OverheadEnum}
 use Rattle.rules.specs.declared.overhead.Overhead.TheVariants.{Nothing, Lengthened, Penalised, Forbidden}
-use Rattle.rules.specs.declared.track.Entered.{Entered as EnteredEnum}
-use Rattle.rules.specs.declared.track.Entered.TheVariants.{Outside, At}
 use Rattle.rules.specs.declared.track.Track.{Track}
 use Rattle.rules.specs.declared.end.End.{End as EndStruct}
 use Rattle.job.specs.declared.grid.Grid.{Grid as GridStruct}
-use Rattle.job.specs.declared.grid.Vertex.{Vertex as VertexStruct}
 use Rattle.rules.specs.Seen.{view_by}
-use Rattle.rules.specs.PriceLists.{Priced}
 
 -- a vertex of a small grid
 pub record OnGrid (g : GridStruct) (v : ℕ) : Type 0 where
   pub small : Small g
   pub there : v < vertices (grid_of g)
 
-unfoldable pub entered_of : Entered → EnteredEnum
-entered_of outside = Outside
-entered_of (at w) = At w
+unfoldable pub entered_of : Entered → Option ℕ
+entered_of outside = None
+entered_of (at w) = Some w
 
 -- a step on the vertex's layer changes this, its column or its row
 abbrev pub index_on : Grid → Vertex → ℕ
@@ -105,10 +95,13 @@ unfoldable pub opposite_to : DirectionEnum → DirectionEnum
 opposite_to Low = High
 opposite_to High = Low
 
--- the ends of a segment whose last vertex is v, in the order in which they are lengthened
-unfoldable pub end_on : Track → (v : ℕ) → DirectionEnum → (length which : ℕ) → EndStruct
-end_on t v d n zero = record { vertex = v; toward = d; room = room_in t (direction_of d) }
-end_on t v d n (suc which) =
+-- the ends of a segment whose last vertex is v: the leaving end, which is lengthened first, and the starting
+-- end
+unfoldable pub leaving_end : Track → (v : ℕ) → DirectionEnum → EndStruct
+leaving_end t v d = record { vertex = v; toward = d; room = room_in t (direction_of d) }
+
+unfoldable pub starting_end : Track → (v : ℕ) → DirectionEnum → (length : ℕ) → EndStruct
+starting_end t v d n =
     let back = direction_of (opposite_to d) in
     let steps = min n (room_in t back) in
     record { vertex = next_on (steps * t.stride) back v; toward = opposite_to d; room = room_in t back - steps }
@@ -139,9 +132,9 @@ steps_of (running d n) = n
 steps_of paid = 0
 steps_of (paid_toward d) = 0
 
-unfoldable pub grown_of : GrownEnum → Grown
-grown_of Grow.Back = back
-grown_of (Grow.To s) = grown (segment_of s)
+unfoldable pub grown_of : Option SegmentEnum → Grown
+grown_of None = back
+grown_of (Some s) = grown (segment_of s)
 
 -- its length fits the field of M, 4 bits
 unfoldable pub Short : SegmentEnum → Type 0
@@ -152,15 +145,15 @@ Short (PaidToward d) = Unit
 
 -- ---- prices
 
--- the line of a layer in the four lists
-unfoldable pub line_at : Layers → (layer : ℕ) → LayerStruct
-line_at ls k = record { wire = get_or ls.wire k 0; via = get_or ls.via k 0; least = get_or ls.least k 0; area = get_or ls.area k 0 }
+-- the line of a layer in the array
+unfoldable pub line_at : List LayerStruct → (layer : ℕ) → LayerStruct
+line_at ls k = get_or ls k no_line
 
 abbrev pub line_record : LayerStruct → Layer
 line_record l = record { wire = l.wire; via = l.via; min_length = l.least; area = l.area }
 
 -- n layer lines from one on
-unfoldable pub lines_from : Layers → (from n : ℕ) → List Layer
+unfoldable pub lines_from : List LayerStruct → (from n : ℕ) → List Layer
 lines_from ls from zero = []
 lines_from ls from (suc n) = line_record (line_at ls from) ∷ lines_from ls (suc from) n
 
@@ -254,16 +247,16 @@ by_owed w enter (fin over) = to (enter + over) (record { vertex = w; segment = f
 abbrev pub place_of : PlaceStruct → Place
 place_of p = record { vertex = p.vertex; segment = segment_of p.segment }
 
--- the vertex that a move enters with the price of entering it, or that it enters none
-unfoldable pub entry_by : (into : ℕ) → Cost → Entry
-entry_by w inf = Shut
-entry_by w (fin enter) = Open w enter
+-- the vertex that a move enters with the price of entering it, if it enters one
+unfoldable pub entry_by : (into : ℕ) → Cost → Option Entry
+entry_by w inf = None
+entry_by w (fin enter) = Some (record { into = w; price = enter })
 
-unfoldable pub entry_at : Tech → View → (v move : ℕ) → Entered → Entry
-entry_at t view v m outside = Shut
-entry_at t view v m (at w) = elim (view.blocked w) [ true ↦ Shut | false ↦ entry_by w (entering t view v w m) ]
+unfoldable pub entry_at : Tech → View → (v move : ℕ) → Entered → Option Entry
+entry_at t view v m outside = None
+entry_at t view v m (at w) = elim (view.blocked w) [ true ↦ None | false ↦ entry_by w (entering t view v w m) ]
 
-unfoldable pub entry_of : Tech → View → (v move : ℕ) → Entry
+unfoldable pub entry_of : Tech → View → (v move : ℕ) → Option Entry
 entry_of t view v m = entry_at t view v m (entered t.grid v m)
 
 unfoldable pub made_by : Grid → View → Place → MadeStruct → Made
@@ -277,31 +270,31 @@ made_by g view p m =
       penalties = m.penalties;
     }
 
-unfoldable pub stepped_by : Grid → View → Place → SteppedEnum → Stepped
-stepped_by g view p Illegal = illegal
-stepped_by g view p (Legal m) = legal (made_by g view p m)
+unfoldable pub stepped_by : Grid → View → Place → Option MadeStruct → Stepped
+stepped_by g view p None = illegal
+stepped_by g view p (Some m) = legal (made_by g view p m)
 
 -- the vertices of a move's extension are all clear, and few steps were missing
 pub record WholeMade (g : Grid) (view : View) (p : Place) (m : MadeStruct) : Type 0 where
   pub few : m.added < 16
   pub whole : Whole g view p m.extension
 
-unfoldable pub WholeStep : Grid → View → Place → SteppedEnum → Type 0
-WholeStep g view p Illegal = Unit
-WholeStep g view p (Legal m) = WholeMade g view p m
+unfoldable pub WholeStep : Grid → View → Place → Option MadeStruct → Type 0
+WholeStep g view p None = Unit
+WholeStep g view p (Some m) = WholeMade g view p m
 
-pub record IsStepped (g : Grid) (view : View) (p : Place) (r : SteppedEnum) (s : Stepped) : Type 0 where
+pub record IsStepped (g : Grid) (view : View) (p : Place) (r : Option MadeStruct) (s : Stepped) : Type 0 where
   pub same : stepped_by g view p r ≡ s
   pub whole : WholeStep g view p r
 
 -- one that lays nothing is the same wherever it is asked
-abbrev pub IsSteppedAnywhere : SteppedEnum → Stepped → Type 0
+abbrev pub IsSteppedAnywhere : Option MadeStruct → Stepped → Type 0
 IsSteppedAnywhere r s = (g : Grid) (view : View) (p : Place) → IsStepped g view p r s
 
 -- a via move, with what it owes
-unfoldable pub by_via : (into enter over : ℕ) → ExtensionStruct → (added penalties : ℕ) → SteppedEnum
+unfoldable pub by_via : (into enter over : ℕ) → ExtensionStruct → (added penalties : ℕ) → Option MadeStruct
 by_via into enter over extension added penalties =
-    Legal (record {
+    Some (record {
       next = record { vertex = into; segment = Fresh };
       enter = enter;
       over = over;
@@ -309,10 +302,3 @@ by_via into enter over extension added penalties =
       added = added;
       penalties = penalties;
     })
-
--- what a step asks: good layers with their price list, and a vertex of the grid with its coordinates
-pub record Here (t : TechStruct) (prices : List ℕ) (v : ℕ) (from : VertexStruct) : Type 0 where
-  pub fits : TechFits t
-  pub priced : Priced (tech_by t) prices
-  pub there : v < vertices (grid_of t.grid)
-  pub is : from ≡ vertex_struct (vertex_by (grid_of t.grid) v)

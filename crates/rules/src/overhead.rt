@@ -1,40 +1,30 @@
 // What a via move owes for the segment that it leaves.
-ghost use Rattle.std.specs.Prelude.{◌≡◌, ◌-◌, ◌<◌};
+ghost use Rattle.std.specs.Prelude.{◌≡◌, ◌<◌, ◌≤◌, length};
 ghost use Rattle.job.specs.Grid.{vertices};
 ghost use Rattle.job.specs.Structs.{Sized, grid_of, vertex_of};
 ghost use Rattle.rules.specs.Tracks.{vertex_by};
 ghost use Rattle.rules.specs.Prices.{line_of};
-ghost use Rattle.rules.specs.Overheads.{otherwise, too_short, overhead_of};
+ghost use Rattle.rules.specs.Overheads.{clear_run, otherwise, too_short, overhead_of};
 ghost use Rattle.rules.specs.Seen.{view_by};
-ghost use Rattle.rules.specs.Structs.{OnGrid, track_of, segment_of, heading_of, steps_of, line_record, tech_by, seen_by, cost_of, no_extension, FewMissing, IsOverhead, IsOverheadAnywhere, overhead_cost, Here};
+ghost use Rattle.rules.specs.Structs.{OnGrid, track_of, direction_of, EndOn, segment_of, heading_of, steps_of, line_record, tech_by, seen_by, cost_of, FewMissing, IsOverhead, IsOverheadAnywhere, overhead_cost};
 ghost use Rattle.job.specs.declared.grid.Grid.{Grid as GridStruct};
-ghost use Rattle.rules.specs.declared.price.Tech.{Tech as TechStruct};
+ghost use Rattle.rules.specs.Charging.{Here};
 
-use crate::end::end_on;
-use crate::price::line_at;
+use crate::end::End;
+use crate::price::Prices;
 use crate::seen::clear;
 use crate::segment::{Segment, heading_of, steps_of};
 use crate::track::{Track, next_toward};
-use bits::part::least;
 use job::grid::Vertex;
 use job::groups::Layer;
 use job::penalty::Penalty;
 
 // So many vertices become metal beyond the last vertex of the segment that is left, and so many beyond its
 // first.
-#[derive(Clone, Copy)]
+#[derive(Clone, Copy, Default)]
 pub struct Extension {
     pub leaving: usize,
     pub starting: usize,
-}
-
-pub fn no_extension() -> Extension
-    ensures { result ≡ no_extension }
-{
-    Extension {
-        leaving: 0,
-        starting: 0,
-    }
 }
 
 #[derive(Clone, Copy)]
@@ -50,22 +40,35 @@ pub enum Overhead {
 fn otherwise(area: usize) -> Overhead
     ensures { IsOverheadAnywhere area result (otherwise area) }
 {
-    let penalty = Penalty::from_field(area);
+    let penalty = Penalty::from(area);
     match penalty {
         Penalty::Closed => Overhead::Forbidden,
         Penalty::Price(_price) => Overhead::Penalised,
     }
 }
 
-// How many steps a length lacks.
-fn missing_of(least: usize, length: usize) -> usize
-    ensures { result ≡ least - length }
+// How many clear vertices follow each other beyond an end, at most so many: the first vertex that isn't clear
+// stops the count.
+fn clear_beyond(seen: &[u8; 16384], stride: usize, end: End, most: usize) -> usize
+    requires { (grid : GridStruct) × (Sized grid) × (EndOn (grid_of grid) stride end) }
+    ensures few { result ≤ most }
+    ensures clear { (grid : GridStruct) → EndOn (grid_of grid) stride end
+        → result ≡ length (clear_run (grid_of grid) (view_by (grid_of grid) seen.now) (direction_of end.toward) most end.vertex) }
 {
-    if length < least { least - length } else { 0 }
+    let toward = end.toward;
+    let within = most.min(end.room);
+    let mut last = end.vertex;
+    for count in 0..within {
+        last = next_toward(stride, toward, last);
+        if !clear(seen, last) {
+            return count;
+        }
+    }
+    within
 }
 
 // An extension of as many clear vertices as are missing, at the leaving end first and the rest at the
-// starting end, or the area penalty. The first vertex that isn't clear stops the count of its own end.
+// starting end, or the area penalty.
 fn too_short(track: Track, line: Layer, seen: &[u8; 16384], v: usize, segment: Segment) -> Overhead
     requires { ((grid : GridStruct) × (Sized grid) × (v < vertices (grid_of grid)) × (track ≡ track_of (grid_of grid) (vertex_by (grid_of grid) v)))
         × (line.least < 16) }
@@ -77,52 +80,34 @@ fn too_short(track: Track, line: Layer, seen: &[u8; 16384], v: usize, segment: S
 {
     let toward = heading_of(segment);
     let length = steps_of(segment);
-    let missing = missing_of(line.least, length);
-    let mut laid = 0;
-    let mut leaving = 0;
-    'ends: for which in 0..2 {
-        // Once the starting end begins, what was laid so far is at the leaving end.
-        leaving = laid;
-        let end = end_on(track, v, toward, length, which);
-        let away = end.toward;
-        let mut last = end.vertex;
-        for _count in 0..least(missing - laid, end.room) {
-            last = next_toward(track.stride, away, last);
-            if !clear(seen, last) {
-                continue 'ends;
-            }
-            laid += 1;
-        }
-    }
-    if laid < missing {
+    let missing = line.least.saturating_sub(length);
+    let leaving_end = End::leaving(track, v, toward);
+    let leaving = clear_beyond(seen, track.stride, leaving_end, missing);
+    let starting_end = End::starting(track, v, toward, length);
+    let starting = clear_beyond(seen, track.stride, starting_end, missing - leaving);
+    if leaving + starting < missing {
         return otherwise(line.area);
     }
-    Overhead::Lengthened(
-        missing,
-        Extension {
-            leaving,
-            starting: laid - leaving,
-        },
-    )
+    Overhead::Lengthened(missing, Extension { leaving, starting })
 }
 
 // A paid segment owes nothing.
 pub fn overhead_of(
     track: Track,
-    prices: &[usize; 40],
+    prices: &Prices,
     seen: &[u8; 16384],
     v: usize,
     from: Vertex,
     segment: Segment,
 ) -> Overhead
-    requires { (tech : TechStruct) × Here tech prices.now v from × (track ≡ track_of (grid_of tech.grid) (vertex_of from)) }
-    ensures { (tech : TechStruct) → Here tech prices.now v from → track ≡ track_of (grid_of tech.grid) (vertex_of from)
-        → (let view = seen_by tech seen.now in
+    requires { (Here prices.now v from) × (track ≡ track_of (grid_of prices.now.tech.grid) (vertex_of from)) }
+    ensures { let tech = prices.now.tech in
+        let view = seen_by tech seen.now in
         let line = line_of (tech_by tech) v in
         IsOverhead line.wire line.area (grid_of tech.grid) view (record { vertex = v; segment = segment_of segment }) result
-        (overhead_of (tech_by tech) view v (segment_of segment))) }
+        (overhead_of (tech_by tech) view v (segment_of segment)) }
 {
-    let line = line_at(prices, from.layer);
+    let line = prices.line(from.layer);
     match segment {
         Segment::Fresh => too_short(track, line, seen, v, segment),
         Segment::Running(_toward, _length) => too_short(track, line, seen, v, segment),

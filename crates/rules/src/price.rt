@@ -1,74 +1,69 @@
-// The price list of a job, and the price of entering a vertex in its parts.
+// The prices of a job, and the price of entering a vertex in its parts.
 ghost use Rattle.std.specs.Prelude.{◌≡◌, ◌<◌};
 ghost use Rattle.rules.specs.Segments.{down};
 ghost use Rattle.rules.specs.Joins.{places};
-ghost use Rattle.rules.specs.Structs.{TechFits, tech_by, cost_of, kind_by};
-ghost use Rattle.rules.specs.declared.price.Tech.{Tech as TechStruct};
-ghost use Rattle.rules.specs.PriceLists.{line_in, extra_in, base_in};
+ghost use Rattle.rules.specs.Structs.{TechFits, tech_by, line_at, cost_of, kind_by};
+ghost use Rattle.rules.specs.PriceLists.{extra_in, base_in, Priced};
+ghost use Rattle.rules.specs.Facts.{tech_fits_prop, priced_prop};
 
 use crate::track::Kind;
 use job::grid::Grid;
 use job::groups::Layer;
-use job::layers::Layers;
 use job::penalty::Penalty;
 
-// What a job says of its layers: the grid, the layer lines with the largest M, and the fields of the two
-// penalties.
+// What a job says of its layers: the grid, the layer lines, 0 past the top layer, with the largest M, and the
+// fields of the two penalties.
 #[derive(Clone, Copy)]
 pub struct Tech {
     pub grid: Grid,
-    pub layers: Layers,
+    pub layers: [Layer; 8],
     pub largest: usize,
     pub guide: usize,
     pub short: usize,
 }
 
-impl Tech {
+// What the layers of a good job say, and what they make each byte of a vertex's flags cost.
+#[derive(Drop)]
+pub struct Prices {
+    pub tech: Tech,
+    pub extras: [usize; 8],
+    pub ghost fits: { TechFits tech } by { tech_fits_prop tech },
+    pub ghost priced: { Priced tech.guide tech.short extras } by { priced_prop tech.guide tech.short extras },
+}
+
+impl Prices {
     // How many places a search has: for each vertex two directions and every length up to the largest M.
-    pub fn places(self) -> usize
-        requires { TechFits self }
-        ensures { result ≡ places (tech_by self) }
+    pub fn places(&self) -> usize
+        ensures { result ≡ places (tech_by self.now.tech) }
     {
-        places_on(self.grid, self.largest)
+        self.tech.grid.vertices() * 2 * (self.tech.largest + 1)
     }
-}
 
-// The same, by what it depends on: a loop need not copy the rest.
-pub fn places_on(grid: Grid, largest: usize) -> usize
-    requires { (tech : TechStruct) × TechFits tech × (tech.grid ≡ grid) × (tech.largest ≡ largest) }
-    ensures { (tech : TechStruct) → TechFits tech → tech.grid ≡ grid → tech.largest ≡ largest → result ≡ places (tech_by tech) }
-{
-    grid.vertices() * 2 * (largest + 1)
-}
-
-// The layer line of a layer.
-pub fn line_at(prices: &[usize; 40], layer: usize) -> Layer
-    requires { layer < 8 }
-    ensures { result ≡ line_in prices.now layer }
-{
-    Layer {
-        wire: prices[layer * 4],
-        via: prices[layer * 4 + 1],
-        least: prices[layer * 4 + 2],
-        area: prices[layer * 4 + 3],
+    // The layer line of a layer.
+    pub fn line(&self, layer: usize) -> Layer
+        requires { layer < 8 }
+        ensures { result ≡ line_at self.now.tech.layers layer }
+    {
+        self.tech.layers[layer]
     }
-}
 
-// The wire price of the layer, or the price of the via, which the line of the lower of its two layers holds.
-pub fn base_price(prices: &[usize; 40], layer: usize, kind: Kind) -> usize
-    requires { (layer < 8) × (kind_by kind ≡ down → 0 < layer) }
-    ensures { result ≡ base_in prices.now layer (kind_by kind) }
-{
-    match kind {
-        Kind::Along(_direction) => prices[layer * 4],
-        Kind::Down => prices[(layer - 1) * 4 + 1],
-        Kind::Up => prices[layer * 4 + 1],
+    // The wire price of the layer, or the price of the via, which the line of the lower of its two layers
+    // holds.
+    pub fn base(&self, layer: usize, kind: Kind) -> usize
+        requires { (layer < 8) × (kind_by kind ≡ down → 0 < layer) }
+        ensures { result ≡ base_in self.now.tech.layers layer (kind_by kind) }
+    {
+        match kind {
+            Kind::Along(_direction) => self.tech.layers[layer].wire,
+            Kind::Down => self.tech.layers[layer - 1].via,
+            Kind::Up => self.tech.layers[layer].via,
+        }
     }
-}
 
-// What a vertex's byte of flags adds to that.
-pub fn extra_of(prices: &[usize; 40], byte: u8) -> Penalty
-    ensures { cost_of result ≡ extra_in prices.now byte }
-{
-    Penalty::from_field(prices[32 + (byte % 8) as usize])
+    // What a vertex's byte of flags adds to that.
+    pub fn extra(&self, byte: u8) -> Penalty
+        ensures { cost_of result ≡ extra_in self.now.extras byte }
+    {
+        Penalty::from(self.extras[(byte % 8) as usize])
+    }
 }

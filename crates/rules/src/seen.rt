@@ -2,6 +2,7 @@
 ghost use Rattle.std.specs.Prelude.{◌≡◌, ◌<◌, get_or};
 ghost use Rattle.rules.specs.Seen.{holds, clear_byte};
 
+// Bits of a number, since the byte is the index of its penalty in `Prices`.
 pub const BLOCKED: u8 = 1;
 
 pub const TAKEN: u8 = 2;
@@ -21,8 +22,5 @@ pub fn clear(seen: &[u8; 16384], v: usize) -> bool
     requires { v < 16384 }
     ensures { result ≡ clear_byte (get_or seen.now v 0) }
 {
-    if has(seen, v, BLOCKED) {
-        return false;
-    }
-    !has(seen, v, TAKEN)
+    !has(seen, v, BLOCKED) && !has(seen, v, TAKEN)
 }

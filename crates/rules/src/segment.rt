@@ -4,7 +4,7 @@ ghost use Rattle.rules.specs.Segments.{of_length, against, not_against, grow};
 ghost use Rattle.rules.specs.Overheads.{toward};
 ghost use Rattle.rules.specs.Structs.{Short, direction_of, opposite_to, segment_of, heading_of, steps_of, grown_of};
 
-#[derive(Clone, Copy)]
+#[derive(Clone, Copy, PartialEq, Eq)]
 pub enum Direction {
     Low,
     High,
@@ -17,13 +17,6 @@ pub enum Segment {
     Running(Direction, usize),
     Paid,
     PaidToward(Direction),
-}
-
-// What a step makes of a segment, or that it would go back.
-#[derive(Clone, Copy)]
-pub enum Grown {
-    Back,
-    To(Segment),
 }
 
 // The move that steps in a direction.
@@ -85,40 +78,32 @@ pub fn steps_of(segment: Segment) -> usize
 pub fn against(was: Direction, now: Direction) -> bool
     ensures { result ≡ against (direction_of was) (direction_of now) }
 {
-    match was {
-        Direction::Low => match now {
-            Direction::Low => false,
-            Direction::High => true,
-        },
-        Direction::High => match now {
-            Direction::Low => true,
-            Direction::High => false,
-        },
-    }
+    was != now
 }
 
 // No step goes back against the one before it.
-fn not_against(was: Direction, now: Direction, segment: Segment) -> Grown
+fn not_against(was: Direction, now: Direction, segment: Segment) -> Option<Segment>
     ensures { grown_of result ≡ not_against (direction_of was) (direction_of now) (segment_of segment) }
 {
     if against(was, now) {
-        Grown::Back
+        None
     } else {
-        Grown::To(segment)
+        Some(segment)
     }
 }
 
+// What a step makes of a segment, unless it would go back.
 // Running, a step adds 1 to the length. A join starts paid with no direction; its first step gives one.
-pub fn grow(least: usize, direction: Direction, segment: Segment) -> Grown
+pub fn grow(least: usize, direction: Direction, segment: Segment) -> Option<Segment>
     requires { Short segment }
     ensures { grown_of result ≡ grow least (direction_of direction) (segment_of segment) }
 {
     match segment {
-        Segment::Fresh => Grown::To(of_length(least, direction, 1)),
+        Segment::Fresh => Some(of_length(least, direction, 1)),
         Segment::Running(was, length) => {
             not_against(was, direction, of_length(least, direction, length + 1))
         }
-        Segment::Paid => Grown::To(Segment::PaidToward(direction)),
+        Segment::Paid => Some(Segment::PaidToward(direction)),
         Segment::PaidToward(was) => not_against(was, direction, Segment::PaidToward(direction)),
     }
 }

@@ -4,17 +4,16 @@ ghost use Rattle.job.specs.Grid.{Grid as GridRecord, vertices};
 ghost use Rattle.job.specs.Structs.{grid_of};
 ghost use Rattle.rules.specs.Views.{View};
 ghost use Rattle.rules.specs.Segments.{Place as PlaceRecord, grow};
-ghost use Rattle.rules.specs.PriceLists.{Priced};
 ghost use Rattle.rules.specs.Overheads.{overhead_of, Overhead as Owed};
 ghost use Rattle.rules.specs.Steps.{stepping, leaving, by_segment, step};
-ghost use Rattle.rules.specs.Structs.{Short, direction_of, segment_of, kind_by, TechFits, tech_by, seen_by, FewMissing, IsOverhead, place_of, entry_of, IsStepped, IsSteppedAnywhere, by_via, Here};
-ghost use Rattle.rules.specs.declared.price.Tech.{Tech as TechStruct};
+ghost use Rattle.rules.specs.Structs.{Short, direction_of, segment_of, kind_by, tech_by, seen_by, FewMissing, IsOverhead, place_of, entry_of, IsStepped, IsSteppedAnywhere, by_via};
+ghost use Rattle.rules.specs.Charging.{Here};
 
-use crate::overhead::{Extension, Overhead, no_extension, overhead_of, overhead_price};
-use crate::price::{base_price, extra_of, line_at};
-use crate::segment::{Direction, Grown, Segment, grow};
-use crate::track::{Entered, Kind, entered_by, kind_of, track_of, vertex_by};
-use job::grid::{Grid, Vertex};
+use crate::overhead::{Extension, Overhead, overhead_of, overhead_price};
+use crate::price::Prices;
+use crate::segment::{Direction, Segment, grow};
+use crate::track::{Kind, entered_by, kind_of, track_of, vertex_by};
+use job::grid::Vertex;
 use job::groups::Layer;
 use job::penalty::Penalty;
 
@@ -25,37 +24,33 @@ pub struct Place {
     pub segment: Segment,
 }
 
-// The vertex that a move enters with the price of entering it; or that it enters none.
+// The vertex that a move enters, with the price of entering it.
 #[derive(Clone, Copy)]
-pub enum Entry {
-    Shut,
-    Open(usize, usize),
+pub struct Entry {
+    pub into: usize,
+    pub price: usize,
 }
 
-// A move stays in the grid, it enters no obstacle and no other net's pin, and no penalty of entering is
-// closed.
+// What a move enters, if it may: it stays in the grid, it enters no obstacle and no other net's pin, and no
+// penalty of entering is closed.
 pub fn entry_of(
-    grid: Grid,
-    prices: &[usize; 40],
+    prices: &Prices,
     seen: &[u8; 16384],
     v: usize,
     from: Vertex,
     number: usize,
-) -> Entry
-    requires { (tech : TechStruct) × Here tech prices.now v from × (tech.grid ≡ grid) }
-    ensures { (tech : TechStruct) → Here tech prices.now v from → tech.grid ≡ grid
-        → result ≡ entry_of (tech_by tech) (seen_by tech seen.now) v number }
+) -> Option<Entry>
+    requires { Here prices.now v from }
+    ensures { result ≡ entry_of (tech_by prices.now.tech) (seen_by prices.now.tech seen.now) v number }
 {
-    let Entered::At(into) = entered_by(grid, v, from, number) else {
-        return Entry::Shut;
+    let into = entered_by(prices.tech.grid, v, from, number)?;
+    let Penalty::Price(extra) = prices.extra(seen[into]) else {
+        return None;
     };
-    let Penalty::Price(extra) = extra_of(prices, seen[into]) else {
-        return Entry::Shut;
-    };
-    Entry::Open(
+    Some(Entry {
         into,
-        base_price(prices, from.layer, kind_of(number)) + extra,
-    )
+        price: prices.base(from.layer, kind_of(number)) + extra,
+    })
 }
 
 // What a legal move did: where it led, the price of entering, and the overhead with its extension and the
@@ -70,12 +65,6 @@ pub struct Made {
     pub penalties: usize,
 }
 
-#[derive(Clone, Copy)]
-pub enum Stepped {
-    Illegal,
-    Legal(Made),
-}
-
 // A step along the track costs no overhead.
 fn step_along(
     least: usize,
@@ -83,21 +72,19 @@ fn step_along(
     toward: Direction,
     into: usize,
     enter: usize,
-) -> Stepped
+) -> Option<Made>
     requires { Short segment }
     ensures { IsSteppedAnywhere result (stepping into enter (grow least (direction_of toward) (segment_of segment))) }
 {
-    let Grown::To(longer) = grow(least, toward, segment) else {
-        return Stepped::Illegal;
-    };
-    Stepped::Legal(Made {
+    let longer = grow(least, toward, segment)?;
+    Some(Made {
         next: Place {
             vertex: into,
             segment: longer,
         },
         enter,
         over: 0,
-        extension: no_extension(),
+        extension: Extension::default(),
         added: 0,
         penalties: 0,
     })
@@ -111,10 +98,10 @@ fn by_via(
     extension: Extension,
     added: usize,
     penalties: usize,
-) -> Stepped
+) -> Option<Made>
     ensures { result ≡ by_via into enter over extension added penalties }
 {
-    Stepped::Legal(Made {
+    Some(Made {
         next: Place {
             vertex: into,
             segment: Segment::Fresh,
@@ -128,113 +115,101 @@ fn by_via(
 }
 
 // A via move out of a vertex with a layer line, by what it owes.
-fn leave_by(line: Layer, into: usize, enter: usize, overhead: Overhead) -> Stepped
+fn leave_by(line: Layer, into: usize, enter: usize, overhead: Overhead) -> Option<Made>
     requires { (line.wire < 1024) × (FewMissing overhead) }
     ensures { (g : GridRecord) (view : View) (p : PlaceRecord) (owed : Owed) → IsOverhead line.wire line.area g view p overhead owed
         → IsStepped g view p result (leaving into enter owed) }
 {
     let Penalty::Price(over) = overhead_price(line, overhead) else {
-        return Stepped::Illegal;
+        return None;
     };
     match overhead {
-        Overhead::Nothing => by_via(into, enter, over, no_extension(), 0, 0),
+        Overhead::Nothing => by_via(into, enter, over, Extension::default(), 0, 0),
         Overhead::Lengthened(missing, extension) => {
             by_via(into, enter, over, extension, missing, 0)
         }
-        Overhead::Penalised => by_via(into, enter, over, no_extension(), 0, 1),
-        Overhead::Forbidden => Stepped::Illegal,
+        Overhead::Penalised => by_via(into, enter, over, Extension::default(), 0, 1),
+        Overhead::Forbidden => None,
     }
 }
 
 // A via move owes overhead for a segment that is too short.
 fn leave_layer(
-    grid: Grid,
-    prices: &[usize; 40],
+    prices: &Prices,
     seen: &[u8; 16384],
     place: Place,
     from: Vertex,
     into: usize,
     enter: usize,
-) -> Stepped
-    requires { (tech : TechStruct) × Here tech prices.now place.vertex from × (tech.grid ≡ grid) }
-    ensures { (tech : TechStruct) → Here tech prices.now place.vertex from → tech.grid ≡ grid
-        → (let view = seen_by tech seen.now in
+) -> Option<Made>
+    requires { Here prices.now place.vertex from }
+    ensures { let tech = prices.now.tech in
+        let view = seen_by tech seen.now in
         IsStepped (grid_of tech.grid) view (place_of place) result
-        (leaving into enter (overhead_of (tech_by tech) view place.vertex (segment_of place.segment)))) }
+        (leaving into enter (overhead_of (tech_by tech) view place.vertex (segment_of place.segment))) }
 {
     let segment = place.segment;
-    let track = track_of(grid, from);
+    let track = track_of(prices.tech.grid, from);
     let overhead = overhead_of(track, prices, seen, place.vertex, from, segment);
-    leave_by(line_at(prices, from.layer), into, enter, overhead)
+    leave_by(prices.line(from.layer), into, enter, overhead)
 }
 
 // What the move's kind asks of the segment.
 fn by_segment(
-    grid: Grid,
-    prices: &[usize; 40],
+    prices: &Prices,
     seen: &[u8; 16384],
     place: Place,
     from: Vertex,
     kind: Kind,
     into: usize,
     enter: usize,
-) -> Stepped
-    requires { ((tech : TechStruct) × Here tech prices.now place.vertex from × (tech.grid ≡ grid)) × (Short place.segment) }
-    ensures { (tech : TechStruct) → Here tech prices.now place.vertex from → tech.grid ≡ grid
-        → (let view = seen_by tech seen.now in
-        IsStepped (grid_of tech.grid) view (place_of place) result (by_segment (tech_by tech) view (place_of place) (kind_by kind) into enter)) }
+) -> Option<Made>
+    requires { (Here prices.now place.vertex from) × (Short place.segment) }
+    ensures { let tech = prices.now.tech in
+        let view = seen_by tech seen.now in
+        IsStepped (grid_of tech.grid) view (place_of place) result (by_segment (tech_by tech) view (place_of place) (kind_by kind) into enter) }
 {
     let Kind::Along(toward) = kind else {
-        return leave_layer(grid, prices, seen, place, from, into, enter);
+        return leave_layer(prices, seen, place, from, into, enter);
     };
     let segment = place.segment;
-    let line = line_at(prices, from.layer);
+    let line = prices.line(from.layer);
     step_along(line.least, segment, toward, into, enter)
 }
 
 // A move is legal if nothing forbids it: its vertex can be entered, and the segment allows it. The place's
 // vertex comes with its coordinates.
 pub fn step_from(
-    grid: Grid,
-    prices: &[usize; 40],
+    prices: &Prices,
     seen: &[u8; 16384],
     place: Place,
     from: Vertex,
     number: usize,
-) -> Stepped
-    requires { ((tech : TechStruct) × Here tech prices.now place.vertex from × (tech.grid ≡ grid)) × (Short place.segment) }
-    ensures { (tech : TechStruct) → Here tech prices.now place.vertex from → tech.grid ≡ grid
-        → (let view = seen_by tech seen.now in
-        IsStepped (grid_of tech.grid) view (place_of place) result (step (tech_by tech) view (place_of place) number)) }
+) -> Option<Made>
+    requires { (Here prices.now place.vertex from) × (Short place.segment) }
+    ensures { let tech = prices.now.tech in
+        let view = seen_by tech seen.now in
+        IsStepped (grid_of tech.grid) view (place_of place) result (step (tech_by tech) view (place_of place) number) }
 {
-    let Entry::Open(into, enter) = entry_of(grid, prices, seen, place.vertex, from, number) else {
-        return Stepped::Illegal;
-    };
+    let entry = entry_of(prices, seen, place.vertex, from, number)?;
     by_segment(
-        grid,
         prices,
         seen,
         place,
         from,
         kind_of(number),
-        into,
-        enter,
+        entry.into,
+        entry.price,
     )
 }
 
 // The same from the place alone.
-pub fn step(
-    grid: Grid,
-    prices: &[usize; 40],
-    seen: &[u8; 16384],
-    place: Place,
-    number: usize,
-) -> Stepped
-    requires { ((tech : TechStruct) × TechFits tech × Priced (tech_by tech) prices.now × (tech.grid ≡ grid)) × (place.vertex < vertices (grid_of grid)) × (Short place.segment) }
-    ensures { (tech : TechStruct) → TechFits tech → Priced (tech_by tech) prices.now → tech.grid ≡ grid
-        → (let view = seen_by tech seen.now in
-        IsStepped (grid_of tech.grid) view (place_of place) result (step (tech_by tech) view (place_of place) number)) }
+pub fn step(prices: &Prices, seen: &[u8; 16384], place: Place, number: usize) -> Option<Made>
+    requires { (place.vertex < vertices (grid_of prices.now.tech.grid)) × (Short place.segment) }
+    ensures { let tech = prices.now.tech in
+        let view = seen_by tech seen.now in
+        IsStepped (grid_of tech.grid) view (place_of place) result (step (tech_by tech) view (place_of place) number) }
 {
-    let from = vertex_by(grid, place.vertex);
-    step_from(grid, prices, seen, place, from, number)
+    let from = vertex_by(prices.tech.grid, place.vertex);
+    step_from(prices, seen, place, from, number)
 }

@@ -8,12 +8,6 @@ ghost use Rattle.rules.specs.Structs.{OnGrid, entered_of, track_of, direction_of
 use crate::segment::Direction;
 use job::grid::{Grid, Vertex};
 
-#[derive(Clone, Copy)]
-pub enum Entered {
-    Outside,
-    At(usize),
-}
-
 // Where a vertex lies on its track, how long the track is, and what a step high adds to the vertex's number.
 #[derive(Clone, Copy)]
 pub struct Track {
@@ -37,41 +31,34 @@ pub fn track_of(grid: Grid, vertex: Vertex) -> Track
     requires { (Small grid) × (vertex.layer < 8) }
     ensures { result ≡ track_of (grid_of grid) (vertex_of vertex) }
 {
-    match grid.steps_column(vertex.layer) {
-        true => Track {
+    if grid.steps_column(vertex.layer) {
+        Track {
             index: vertex.column,
             length: grid.columns,
             stride: 1,
-        },
-        false => Track {
+        }
+    } else {
+        Track {
             index: vertex.row,
             length: grid.rows,
             stride: grid.columns,
-        },
+        }
     }
 }
 
 // The vertex that lies lower by a number, where there is one.
-fn lower(there: bool, v: usize, by: usize) -> Entered
+fn lower(there: bool, v: usize, by: usize) -> Option<usize>
     requires { there ≡ true → by ≤ v }
     ensures { result ≡ entered_of (if_there there (v - by)) }
 {
-    if there {
-        Entered::At(v - by)
-    } else {
-        Entered::Outside
-    }
+    if there { Some(v - by) } else { None }
 }
 
-fn higher(there: bool, v: usize, by: usize) -> Entered
+fn higher(there: bool, v: usize, by: usize) -> Option<usize>
     requires { there ≡ true → v + by < 2 ^ 32 }
     ensures { result ≡ entered_of (if_there there (v + by)) }
 {
-    if there {
-        Entered::At(v + by)
-    } else {
-        Entered::Outside
-    }
+    if there { Some(v + by) } else { None }
 }
 
 // What a move does: a step along the track in a direction, or a via to the layer below or above.
@@ -95,9 +82,9 @@ pub fn kind_of(number: usize) -> Kind
     }
 }
 
-// The vertex that a move enters, from a vertex with its coordinates: the move's number and the layer's
-// direction decide what changes.
-pub fn entered_by(grid: Grid, v: usize, from: Vertex, number: usize) -> Entered
+// The vertex that a move enters, from a vertex with its coordinates, if it stays in the grid: the move's
+// number and the layer's direction decide what changes.
+pub fn entered_by(grid: Grid, v: usize, from: Vertex, number: usize) -> Option<usize>
     requires { (OnGrid grid v) × (from ≡ vertex_struct (vertex_by (grid_of grid) v)) }
     ensures { result ≡ entered_of (entered (grid_of grid) v number) }
 {
@@ -108,7 +95,7 @@ pub fn entered_by(grid: Grid, v: usize, from: Vertex, number: usize) -> Entered
         1 => higher(track.index + 1 < track.length, v, track.stride),
         2 => lower(0 < from.layer, v, level),
         3 => higher(from.layer + 1 < grid.layers, v, level),
-        _ => Entered::Outside,
+        _ => None,
     }
 }
 

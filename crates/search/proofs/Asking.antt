@@ -12,6 +12,7 @@ use Prim.Native.Nat.{ℕ, ◌+◌, ◌^◌, ◌≤◌, ◌<◌}
 use mathlib.Core.Path.{◌≡◌, refl, sym, ap, ◌∙◌}
 use mathlib.Core.List.{List}
 use native.Mathlib.Omega.{arith}
+use Rattle.std.proofs.Common.{Option, Some, None}
 use Rattle.job.specs.Grid.{vertices}
 use Rattle.job.specs.Structs.{InFields, grid_of, vertex_of, vertex_struct}
 use Rattle.job.specs.declared.grid.Vertex.{Vertex}
@@ -20,17 +21,16 @@ use Rattle.rules.specs.Tracks.{vertex_by, at, entered}
 use Rattle.rules.specs.Views.{View}
 use Rattle.rules.specs.Segments.{Place}
 use Rattle.rules.specs.Steps.{Stepped, step, priced}
-use Rattle.rules.specs.PriceLists.{Priced}
 use Rattle.rules.specs.Joins.{places}
 use Rattle.rules.specs.Places.{code_by, place_code, place_at, GoodSegment, GoodPlace, dearest_move}
-use Rattle.rules.specs.Structs.{OnGrid, segment_of, Short, TechFits, tech_by, seen_by, place_of, made_by, stepped_by, IsStepped, Here}
+use Rattle.rules.specs.Structs.{OnGrid, segment_of, Short, TechFits, tech_by, seen_by, place_of, made_by, stepped_by, IsStepped}
+use Rattle.rules.specs.Charging.{Here}
+use Rattle.rules.specs.declared.price.Prices.{Prices}
 use Rattle.rules.specs.declared.price.Tech.{Tech as TechStruct}
 use Rattle.rules.specs.declared.segment.Segment.{Segment as SegmentEnum}
 use Rattle.rules.specs.declared.segment.Segment.TheVariants.{Fresh, Running, Paid, PaidToward}
 use Rattle.rules.specs.declared.step.Place.{Place as PlaceStruct}
 use Rattle.rules.specs.declared.step.Made.{Made as MadeStruct}
-use Rattle.rules.specs.declared.step.Stepped.{Stepped as SteppedEnum}
-use Rattle.rules.specs.declared.step.Stepped.TheVariants.{Illegal, Legal}
 use Rattle.rules.proofs.Techs.{some_largest, largest_small}
 use Rattle.rules.proofs.Held.{in_array}
 use Rattle.rules.specs.Walks.{start_at}
@@ -167,50 +167,44 @@ module _ {tech : TechStruct} (held : TechFits tech) where
 
 -- ---- a settled place
 
-module _ {tech : TechStruct} {settled : Settled} (at_place : AtPlace tech settled) where
+module _ {p : Prices} {settled : Settled} (at_place : AtPlace p settled) where
   -- what a step asks of its vertex
-  pub settled_here : {prices : List ℕ} → Priced (tech_by tech) prices → Here tech prices settled.place.vertex settled.vertex
-  settled_here priced =
-      record {
-        fits = at_place.fits;
-        priced = priced;
-        there = (vertex_on at_place.fits settled.place at_place.good).there;
-        is = at_place.is;
-      }
+  pub settled_here : Here p settled.place.vertex settled.vertex
+  settled_here = record { there = (vertex_on p.fits settled.place at_place.good).there; is = at_place.is }
 
   -- and of its segment
   pub settled_short : Short settled.place.segment
-  settled_short = segment_short at_place.fits settled.place at_place.good
+  settled_short = segment_short p.fits settled.place at_place.good
 
   -- its coordinates lie in their fields' ranges
   pub settled_fields : InFields settled.vertex
   settled_fields =
-      rw at_place.is (vertex_fields_lem tech.grid settled.place.vertex (vertex_on at_place.fits settled.place at_place.good))
+      rw at_place.is (vertex_fields_lem p.tech.grid settled.place.vertex (vertex_on p.fits settled.place at_place.good))
 
   module _ (seen : List ℕ) (number : ℕ) where
     -- the move that the code makes from it
     abbrev does : Stepped
-    does = step (tech_by tech) (seen_by tech seen) (place_of settled.place) number
+    does = step (tech_by p.tech) (seen_by p.tech seen) (place_of settled.place) number
 
     -- what a legal one leads to
     pub record Led (made : MadeStruct) : Type 0 where
       pub leads : priced does ≡ to (made.enter + made.over) (place_of made.next)
-      pub good : GoodPlace (tech_by tech) (place_of made.next)
+      pub good : GoodPlace (tech_by p.tech) (place_of made.next)
       pub price : made.enter + made.over ≤ dearest_move
 
-    pub led : {r : SteppedEnum} {made : MadeStruct} → IsStepped (grid_of tech.grid) (seen_by tech seen) (place_of settled.place) r does → r ≡ Legal made
+    pub led : {r : Option MadeStruct} {made : MadeStruct} → IsStepped (grid_of p.tech.grid) (seen_by p.tech seen) (place_of settled.place) r does → r ≡ Some made
         → Led made
     unfolding stepped_by made_by priced
     led {r} {made} stepped is =
         let leads : priced does ≡ to (made.enter + made.over) (place_of made.next) = rw (← stepped.same, is) refl in
         record {
           leads = leads;
-          good = step_keeps (seen_by tech seen) (place_of settled.place) number at_place.fits.good at_place.good leads;
-          price = step_limits (seen_by tech seen) (place_of settled.place) number at_place.fits.good at_place.good leads;
+          good = step_keeps (seen_by p.tech seen) (place_of settled.place) number p.fits.good at_place.good leads;
+          price = step_limits (seen_by p.tech seen) (place_of settled.place) number p.fits.good at_place.good leads;
         }
 
     -- one that is not legal is blocked
-    pub led_not : {r : SteppedEnum} → IsStepped (grid_of tech.grid) (seen_by tech seen) (place_of settled.place) r does → r ≡ Illegal
+    pub led_not : {r : Option MadeStruct} → IsStepped (grid_of p.tech.grid) (seen_by p.tech seen) (place_of settled.place) r does → r ≡ None
         → priced does ≡ blocked
     unfolding stepped_by priced
     led_not stepped is = rw (← stepped.same, is) refl

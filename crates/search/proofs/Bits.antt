@@ -1,17 +1,22 @@
 -- Bytes with a bit for each move.
---     bit_some, bit_fits            a bit is some; a byte without it has room for it
+--     bit_some, bit_power           a bit is some, and a power of 2
 --     last_bit                      a move that is none of the first three
---     with_set, with_kept           the byte with it set, by its test
+--     has_told, with_told           whether a byte has it, and the byte with it set, as the code has them
 --     none_has                      a byte without any
 --     moves_set, moves_stay         one byte of many with it set: it is set afterwards, and other bits stay
-use Prim.Native.Nat.{ℕ, zero, suc, ◌+◌, ◌/◌, ◌%◌, ◌<◌}
+use Prim.Native.Nat.{ℕ, zero, suc, ◌+◌, ◌*◌, ◌/◌, ◌%◌, ◌^◌, ◌<◌}
 use mathlib.Core.Path.{◌≡◌, refl, ap, ◌∙◌}
 use mathlib.Core.List.{List}
+use mathlib.Core.Bool.{not}
 use native.Mathlib.Omega.{arith}
 use native.Mathlib.Decide.{ℕ_discrete}
 use lib.ListN.{length, get_or, set}
 use lib.Seq.{get_or-set_same, get_or-set_other}
 use borrow.Author.Tests.{eq-eqb, ne_eqb}
+use lib.Dec.{eqb}
+use Rattle.std.specs.Int.Bits.{bit_and, bit_or, or_add_and}
+use Rattle.std.proofs.lemmas.Nat.{or_disjoint}
+use Rattle.std.proofs.lemmas.Nat.Bits.{and_pow}
 use Rattle.search.specs.Bits.{bit_of, HasMove, with_move}
 
 -- ---- a bit
@@ -23,12 +28,13 @@ bit_some (suc zero) = omega arith
 bit_some (suc (suc zero)) = omega arith
 bit_some (suc (suc (suc m))) = omega arith
 
-pub bit_fits : (byte m : ℕ) → byte < 256 → byte / bit_of m % 2 ≡ 0 → byte + bit_of m < 256
+-- it is a power of 2
+bit_power : (m : ℕ) → (k : ℕ) × (bit_of m ≡ 2 ^ k)
 unfolding bit_of
-bit_fits byte zero h e = omega arith
-bit_fits byte (suc zero) h e = omega arith
-bit_fits byte (suc (suc zero)) h e = omega arith
-bit_fits byte (suc (suc (suc m))) h e = omega arith
+bit_power zero = (0, refl)
+bit_power (suc zero) = (1, refl)
+bit_power (suc (suc zero)) = (2, refl)
+bit_power (suc (suc (suc m))) = (3, refl)
 
 -- a move that is none of the first three has the last bit
 pub last_bit : (m : ℕ) → (m ≡ 0 → ⊥) → (m ≡ 1 → ⊥) → (m ≡ 2 → ⊥) → bit_of m ≡ 8
@@ -39,14 +45,40 @@ last_bit (suc (suc zero)) not0 not1 not2 = absurd (not2 refl)
 last_bit (suc (suc (suc m))) not0 not1 not2 = refl
 
 module _ (byte m : ℕ) where
+  -- what the byte has of it
+  and_bit : bit_and byte (bit_of m) ≡ byte / bit_of m % 2 * bit_of m
+  and_bit = let (k, is) = bit_power m in rw is (and_pow byte k)
+
+  -- whether it is set
+  pub has_told : not (eqb (bit_and byte (bit_of m)) 0) ≡ eqb (byte / bit_of m % 2) 1
+  has_told = rw and_bit (by (byte / bit_of m % 2) (bit_of m) (omega arith) (bit_some m))
+    where
+      by : (r bit : ℕ) → r < 2 → 0 < bit → not (eqb (r * bit) 0) ≡ eqb r 1
+      by zero bit few some = rw (eq-eqb (0 * bit) 0 (omega arith)) refl
+      by (suc zero) bit few some = rw (ne_eqb (1 * bit) 0 (λ e. omega arith)) refl
+      by (suc (suc r)) bit few some = absurd (omega arith)
+
   -- the byte with it set
-  pub with_set : byte / bit_of m % 2 ≡ 0 → byte + bit_of m ≡ with_move byte m
+  with_set : byte / bit_of m % 2 ≡ 0 → byte + bit_of m ≡ with_move byte m
   unfolding with_move
   with_set e = rw (eq-eqb (byte / bit_of m % 2) 0 e) refl
 
-  pub with_kept : (byte / bit_of m % 2 ≡ 0 → ⊥) → byte ≡ with_move byte m
+  with_kept : (byte / bit_of m % 2 ≡ 0 → ⊥) → byte ≡ with_move byte m
   unfolding with_move
   with_kept e = rw (ne_eqb (byte / bit_of m % 2) 0 e) refl
+
+  pub with_told : bit_or byte (bit_of m) ≡ with_move byte m
+  with_told = by (ℕ_discrete (byte / bit_of m % 2) 0)
+    where
+      by : Dec (byte / bit_of m % 2 ≡ 0) → bit_or byte (bit_of m) ≡ with_move byte m
+      by (yes e) =
+          let none : bit_and byte (bit_of m) ≡ 0 * bit_of m = and_bit ∙ rw e refl in
+          or_disjoint byte (bit_of m) (omega (arith, none)) ∙ with_set e
+      by (no e) =
+          let one : byte / bit_of m % 2 ≡ 1 = omega arith in
+          let all : bit_and byte (bit_of m) ≡ 1 * bit_of m = and_bit ∙ rw one refl in
+          let kept : bit_or byte (bit_of m) ≡ byte = omega (arith, all, or_add_and byte (bit_of m)) in
+          kept ∙ with_kept e
 
 -- a byte without any
 pub none_has : {byte : ℕ} (m : ℕ) → byte ≡ 0 → HasMove byte m → ⊥

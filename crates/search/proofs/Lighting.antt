@@ -11,25 +11,24 @@ use lib.ListN.{length, get_or, set, length-set}
 use Rattle.job.specs.Grid.{Grid, vertices}
 use Rattle.job.specs.Structs.{Sized, grid_of}
 use Rattle.job.specs.declared.grid.Grid.{Grid as GridStruct}
+use Rattle.std.proofs.Common.{Option, Some, None}
 use Rattle.rules.specs.Tracks.{outside, at, entered}
 use Rattle.rules.specs.Structs.{entered_of}
-use Rattle.rules.specs.declared.track.Entered.{Entered as EnteredEnum}
-use Rattle.rules.specs.declared.track.Entered.TheVariants.{Outside, At}
 use Rattle.rules.proofs.Fitting.{entered_outside, entered_at}
 use Rattle.rules.proofs.Neighbours.{entered_below, entered_back}
 use Rattle.search.specs.Bits.{HasMove, with_move}
 use Rattle.search.proofs.Bits.{moves_set, moves_stay}
 
-module _ {grid : GridStruct} {v : ℕ} (number : ℕ) (sized : Sized grid) (below : v < vertices (grid_of grid)) {r : EnteredEnum}
+module _ {grid : GridStruct} {v : ℕ} (number : ℕ) (sized : Sized grid) (below : v < vertices (grid_of grid)) {r : Option ℕ}
     (is : r ≡ entered_of (entered (grid_of grid) v number)) where
   -- a move out of the grid enters no vertex
-  pub none_entered : r ≡ Outside → (w : ℕ) → entered (grid_of grid) v number ≡ at w → ⊥
+  pub none_entered : r ≡ None → (w : ℕ) → entered (grid_of grid) v number ≡ at w → ⊥
   none_entered off w e = apart (sym (entered_outside _ (sym is ∙ off)) ∙ e)
     where
       apart : outside ≡ at w → ⊥
       apart f = let z : ◌≡◌ {A = ℕ} 0 1 = cc in omega arith
 
-  module _ {u : ℕ} (into : r ≡ At u) where
+  module _ {u : ℕ} (into : r ≡ Some u) where
     -- a vertex that is entered has a byte
     pub one_entered : u < 16384
     one_entered = omega (arith, entered_below (grid_of grid) number below (entered_at _ (sym is ∙ into)), sized.vertices)

@@ -13,6 +13,8 @@ use mathlib.Core.Bool.{true, false, true≢false}
 use native.Mathlib.Omega.{arith}
 use lib.ListN.{get_or, set}
 use lib.Dec.{eqb}
+use Rattle.std.proofs.Common.{Some, None}
+use Rattle.std.proofs.lemmas.Option.{none-some}
 use Rattle.paths.specs.Systems.{Step, blocked, to}
 use Rattle.paths.specs.Costs.{Cost, fin, inf}
 use Rattle.paths.proofs.Steps.{not_blocked, one_price, one_next}
@@ -23,8 +25,7 @@ use Rattle.rules.specs.Steps.{step, priced}
 use Rattle.rules.specs.Joins.{places}
 use Rattle.rules.specs.Places.{place_code, GoodPlace, GoodTech}
 use Rattle.rules.specs.Structs.{Via, owed_cost, by_owed, entry_of, place_of}
-use Rattle.rules.specs.declared.step.Place.{Place as PlaceStruct}
-use Rattle.rules.specs.declared.step.Entry.TheVariants.{Open}
+use Rattle.rules.specs.declared.step.Entry.{Entry}
 use Rattle.rules.proofs.Places.{code_below}
 use Rattle.rules.proofs.Moves.{step_keeps}
 use Rattle.rules.proofs.Entering.{priced_via}
@@ -32,7 +33,7 @@ use Rattle.heap.specs.Heaps.{Heaped, Lowered}
 use Rattle.search.specs.Fronts.{left_at}
 use Rattle.search.specs.Bits.{with_move}
 use Rattle.search.specs.Tries.{tried_of, OwedFor, fresh_code, Passed, Attempted}
-use Rattle.search.specs.declared.tries.Tried.TheVariants.{Stopped, To}
+use Rattle.search.specs.declared.tries.Arrival.{Arrival}
 use Rattle.search.specs.declared.tries.Attempt.{Attempt}
 use Rattle.search.specs.Spreads.{keys, NoGoals, Turn, Reach}
 
@@ -44,16 +45,16 @@ more_passed up passed = record { touched = passed.touched; within = omega (arith
 
 module _ {t : Tech} (view : View) {bounds work : List ℕ} (p : Place) {distance : ℕ} (number : ℕ) where
   -- a via that is passed over lowers no key, whatever it owes
-  pub via_passed : {w enter : ℕ} → entry_of t view p.vertex number ≡ Open w enter → Via (kind_of number) → Passed t bounds work distance enter (fresh_code t w)
+  pub via_passed : {e : Entry} → entry_of t view p.vertex number ≡ Some e → Via (kind_of number) → Passed t bounds work distance e.price (fresh_code t e.into)
       → (c : ℕ) (q : Place) → priced (step t view p number) ≡ to c q → Passed t bounds work distance c (place_code t q)
   unfolding fresh_code by_owed
-  via_passed {w} {enter} opens via passed c q leads =
+  via_passed {e} opens via passed c q leads =
       by (owed_cost t view p) (priced_via t view p number opens via ∙ leads)
     where
-      by : (x : Cost) → by_owed w enter x ≡ to c q → Passed t bounds work distance c (place_code t q)
+      by : (x : Cost) → by_owed e.into e.price x ≡ to c q → Passed t bounds work distance c (place_code t q)
       by inf is = absurd (not_blocked is)
       by (fin over) is =
-          let dearer : enter + over ≡ c = one_price is in
+          let dearer : e.price + over ≡ c = one_price is in
           rw (← one_next is) (more_passed (omega (arith, dearer)) passed)
 
   -- a move that was tried
@@ -62,24 +63,21 @@ module _ {t : Tech} (view : View) {bounds work : List ℕ} (p : Place) {distance
   attempt_told is owed = record { owed = owed; tried = inl is }
 
   -- one that was passed over
-  pub attempt_passed : {a : Attempt} → a.tried ≡ Stopped → ((c : ℕ) (q : Place) → priced (step t view p number) ≡ to c q → Passed t bounds work distance c (place_code t q))
+  pub attempt_passed : {a : Attempt} → a.tried ≡ None → ((c : ℕ) (q : Place) → priced (step t view p number) ≡ to c q → Passed t bounds work distance c (place_code t q))
       → OwedFor t view p a.owed → Attempted t view bounds work p distance number a
   attempt_passed is passed owed = record { owed = owed; tried = inr (is, passed) }
 
   -- a move that leads to a place
-  pub attempt_to : {a : Attempt} {next : PlaceStruct} {price : ℕ} → Attempted t view bounds work p distance number a → a.tried ≡ To next price
-      → priced (step t view p number) ≡ to price (place_of next)
+  pub attempt_to : {a : Attempt} {arrival : Arrival} → Attempted t view bounds work p distance number a → a.tried ≡ Some arrival
+      → priced (step t view p number) ≡ to arrival.price (place_of arrival.place)
   unfolding tried_of
-  attempt_to {a} {next} {price} attempt is = by attempt.tried
+  attempt_to {a} {arrival} attempt is = by attempt.tried
     where
       by : (tried_of a.tried ≡ priced (step t view p number))
-          ⊎ ((a.tried ≡ Stopped) × ((c : ℕ) (q : Place) → priced (step t view p number) ≡ to c q → Passed t bounds work distance c (place_code t q)))
-          → priced (step t view p number) ≡ to price (place_of next)
+          ⊎ ((a.tried ≡ None) × ((c : ℕ) (q : Place) → priced (step t view p number) ≡ to c q → Passed t bounds work distance c (place_code t q)))
+          → priced (step t view p number) ≡ to arrival.price (place_of arrival.place)
       by (inl told) = sym told ∙ ap tried_of is
-      by (inr (stopped, passed)) = absurd (not_stopped (sym stopped ∙ is))
-        where
-          not_stopped : Stopped ≡ To next price → ⊥
-          not_stopped e = let z : ◌≡◌ {A = ℕ} 0 1 = cc in omega arith
+      by (inr (stopped, passed)) = absurd (none-some _ (sym stopped ∙ is))
 
 -- ---- what trying it does
 
@@ -138,7 +136,7 @@ module _ {t : Tech} {view : View} {spots bounds : List ℕ} {p : Place} {distanc
 
 -- a move that leads nowhere, or is passed over, does nothing
 pub reach_not : {t : Tech} {view : View} (spots bounds : List ℕ) {p : Place} {distance number size best : ℕ} {near work : List ℕ} {a : Attempt} → GoodTech t → GoodPlace t p
-    → Heaped (places t) size work → NoGoals t spots work → Attempted t view bounds work p distance number a → a.tried ≡ Stopped
+    → Heaped (places t) size work → NoGoals t spots work → Attempted t view bounds work p distance number a → a.tried ≡ None
     → Reach t view spots bounds p distance number (priced (step t view p number)) size best near work size best near work
 unfolding tried_of
 reach_not {t} {view} spots bounds {p} {distance} {number} {size} {best} {near} {work} {a} fine on heaped none attempt is = by attempt.tried
@@ -154,7 +152,7 @@ reach_not {t} {view} spots bounds {p} {distance} {number} {size} {best} {near} {
         let good = step_keeps view p number fine on e in
         reach_goes e (none.none good there.touched) (lowered_same heaped there.touched there.within)
 
-    by : (tried_of a.tried ≡ move) ⊎ ((a.tried ≡ Stopped) × ((c : ℕ) (q : Place) → move ≡ to c q → Passed t bounds work distance c (place_code t q)))
+    by : (tried_of a.tried ≡ move) ⊎ ((a.tried ≡ None) × ((c : ℕ) (q : Place) → move ≡ to c q → Passed t bounds work distance c (place_code t q)))
         → Reach t view spots bounds p distance number move size best near work size best near work
     by (inl told) = reach_stopped (sym told ∙ ap tried_of is)
     by (inr (stopped, passed)) = passed_by move refl passed

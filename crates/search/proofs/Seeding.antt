@@ -186,14 +186,6 @@ flagged_none {flag = flag} so_far all test v low high = so_far.none (by (eqb fla
     by true e h = eqb-true flag 0 e
     by false e h = absurd (true≢false h)
 
--- the code's test tells that there is none
-pub not_some : {r : Bool} → not r ≡ true → r ≡ false
-not_some {r} test = by r test
-  where
-    by : (b : Bool) → not b ≡ true → b ≡ false
-    by true h = absurd (true≢false (sym h))
-    by false h = refl
-
 module _ (t : Tech) (spots bounds work₀ : List ℕ) (size₀ from to : ℕ) where
   -- whatever was found at first, so many vertices of the block are asked
   pub record Blocked (work : List ℕ) (size vertex : ℕ) : Type 0 where

@@ -8,7 +8,8 @@
 --     lead_slot, with_lead    the slot of a lead that tells a move; the slice with such a lead
 --     led_by, lead_at         whether a place has a lead, and the move that it tells
 --     no_goal, best_by        the cost of the cheapest goal found
-use Rattle.std.specs.Prelude.{ℕ, zero, suc, ◌+◌, ◌-◌, ◌*◌, ◌/◌, ◌%◌, List, Bool, cond, get_or, set, eqb, ltb}
+--     best_of                 the same from what the search answers
+use Rattle.std.specs.Prelude.{ℕ, zero, suc, ◌+◌, ◌-◌, ◌*◌, ◌/◌, ◌%◌, List, Bool, cond, get_or, set, eqb, ltb, Option, Some, None}
 use Rattle.job.specs.Grid.{vertices}
 use Rattle.job.specs.Job.{largest_min_length}
 use Rattle.paths.specs.Systems.{System}
@@ -82,3 +83,8 @@ no_goal = 1099511627775
 -- the cost of the cheapest goal found
 unfoldable pub best_by : (best : ℕ) → Cost
 best_by best = cond (ltb best no_goal) (fin best) inf
+
+-- the cost of the goal that a search answers
+unfoldable pub best_of : Option ℕ → ℕ
+best_of None = no_goal
+best_of (Some best) = best

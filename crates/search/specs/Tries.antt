@@ -5,38 +5,38 @@
 --     fresh_code, Passed    the number of a vertex's fresh place, and that a place has a key that a move at a
 --                           price does not lower
 --     Attempted             a move that was tried, or passed over
-use Rattle.std.specs.Prelude.{ℕ, suc, ◌+◌, ◌*◌, ◌≤◌, ◌<◌, ◌≡◌, ◌⊎◌, List, get_or}
+use Rattle.std.specs.Prelude.{ℕ, suc, ◌+◌, ◌*◌, ◌≤◌, ◌<◌, ◌≡◌, ◌⊎◌, List, Option, Some, None, get_or}
 use Rattle.job.specs.Structs.{grid_of, vertex_struct}
+use Rattle.job.specs.declared.penalty.Penalty.{Penalty}
 use Rattle.paths.specs.Systems.{Step, blocked, to}
 use Rattle.rules.specs.Tracks.{vertex_by}
 use Rattle.rules.specs.Views.{View}
 use Rattle.rules.specs.Segments.{fresh, Place}
-use Rattle.rules.specs.Prices.{Tech, charge}
+use Rattle.rules.specs.Prices.{Tech}
 use Rattle.rules.specs.Steps.{step, priced}
 use Rattle.rules.specs.Places.{place_code, GoodPlace, dearest_move}
-use Rattle.rules.specs.Structs.{tech_by, TechFits, owed_cost, place_of}
-use Rattle.rules.specs.declared.price.Tech.{Tech as TechStruct}
+use Rattle.rules.specs.Structs.{tech_by, cost_of, owed_cost, place_of}
+use Rattle.rules.specs.declared.price.Prices.{Prices}
 use Rattle.heap.specs.Heaps.{most_items, key_of}
 use Rattle.search.specs.Fronts.{left_at}
 use Rattle.search.specs.declared.settled.Settled.{Settled}
-use Rattle.search.specs.declared.tries.Tried.{Tried}
-use Rattle.search.specs.declared.tries.Tried.TheVariants.{Stopped, To}
+use Rattle.search.specs.declared.tries.Arrival.{Arrival}
 use Rattle.search.specs.declared.tries.Attempt.{Attempt}
 
 -- a good place, with the coordinates of its vertex, at a cost that fits
-pub record AtPlace (tech : TechStruct) (s : Settled) : Type 0 where
-  pub fits : TechFits tech
-  pub good : GoodPlace (tech_by tech) (place_of s.place)
-  pub is : s.vertex ≡ vertex_struct (vertex_by (grid_of tech.grid) s.place.vertex)
+pub record AtPlace (p : Prices) (s : Settled) : Type 0 where
+  pub good : GoodPlace (tech_by p.tech) (place_of s.place)
+  pub is : s.vertex ≡ vertex_struct (vertex_by (grid_of p.tech.grid) s.place.vertex)
   pub below : s.distance ≤ dearest_move * most_items
 
-unfoldable pub tried_of : Tried → Step Place
-tried_of Stopped = blocked
-tried_of (To p c) = to c (place_of p)
+unfoldable pub tried_of : Option Arrival → Step Place
+tried_of None = blocked
+tried_of (Some a) = to a.price (place_of a.place)
 
--- the field of what a via owes; a greater number, where it was not asked
-unfoldable pub OwedFor : Tech → View → Place → (owed : ℕ) → Type 0
-OwedFor t view p owed = owed < 65536 → charge owed ≡ owed_cost t view p
+-- what a via owes, where it was asked
+unfoldable pub OwedFor : Tech → View → Place → (owed : Option Penalty) → Type 0
+OwedFor t view p None = Unit
+OwedFor t view p (Some owed) = cost_of owed ≡ owed_cost t view p
 
 -- the number of a vertex's fresh place
 unfoldable pub fresh_code : Tech → (v : ℕ) → ℕ
@@ -51,4 +51,4 @@ pub record Passed (t : Tech) (bounds work : List ℕ) (distance price c : ℕ) :
 pub record Attempted (t : Tech) (view : View) (bounds work : List ℕ) (p : Place) (distance number : ℕ) (a : Attempt) : Type 0 where
   pub owed : OwedFor t view p a.owed
   pub tried : (tried_of a.tried ≡ priced (step t view p number))
-      ⊎ ((a.tried ≡ Stopped) × ((c : ℕ) (q : Place) → priced (step t view p number) ≡ to c q → Passed t bounds work distance c (place_code t q)))
+      ⊎ ((a.tried ≡ None) × ((c : ℕ) (q : Place) → priced (step t view p number) ≡ to c q → Passed t bounds work distance c (place_code t q)))

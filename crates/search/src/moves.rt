@@ -2,7 +2,7 @@
 ghost use Rattle.std.specs.Prelude.{◌≡◌, ◌/◌, ◌%◌, eqb};
 ghost use Rattle.search.specs.Bits.{bit_of, with_move};
 
-// The bit of a move.
+// The bit of a move. `has_move` and `with_move` ask nothing of the number, so that it is no shift.
 fn bit_of(number: usize) -> u8
     ensures { result ≡ bit_of number }
 {
@@ -18,17 +18,12 @@ fn bit_of(number: usize) -> u8
 pub fn has_move(byte: u8, number: usize) -> bool
     ensures { result ≡ eqb (byte / bit_of number % 2) 1 }
 {
-    byte / bit_of(number) % 2 == 1
+    byte & bit_of(number) != 0
 }
 
 // The byte with a move's bit set.
 pub fn with_move(byte: u8, number: usize) -> u8
     ensures { result ≡ with_move byte number }
 {
-    let bit = bit_of(number);
-    if byte / bit % 2 == 0 {
-        byte + bit
-    } else {
-        byte
-    }
+    byte | bit_of(number)
 }

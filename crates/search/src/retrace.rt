@@ -9,9 +9,8 @@ ghost use Rattle.metal.specs.Codes.{Beyond};
 ghost use Rattle.rules.specs.Tracks.{vertex_by, at, entered};
 ghost use Rattle.rules.specs.Joins.{places};
 ghost use Rattle.rules.specs.Places.{place_at, dearest_move};
-ghost use Rattle.rules.specs.PriceLists.{Priced};
-ghost use Rattle.rules.specs.Structs.{TechFits, tech_by, seen_by};
-ghost use Rattle.bounds.specs.Bounds.{Bounding, SmallBounds};
+ghost use Rattle.rules.specs.Structs.{tech_by, seen_by};
+ghost use Rattle.bounds.specs.Bounds.{Bounding};
 ghost use Rattle.search.specs.Fronts.{costs, with_lead, no_goal};
 ghost use Rattle.search.specs.Lists.{Laid};
 ghost use Rattle.search.specs.Spreads.{Ended};
@@ -23,11 +22,11 @@ use crate::lead::{LED, lowest_among};
 use crate::moves::with_move;
 use crate::places::place_of;
 use crate::settled::Settled;
-use bounds::bound::bound_of;
+use bounds::bound::Bounds;
 use heap::cells::{SLOTS, key_of};
 use job::grid::{Grid, Vertex};
-use rules::price::Tech;
-use rules::track::{Entered, entered_by, vertex_by};
+use rules::price::Prices;
+use rules::track::{entered_by, vertex_by};
 
 // Sets the bit of the move back, at the vertex that a move enters.
 fn light_one(near: &mut [u8; 16384], grid: Grid, v: usize, from: Vertex, number: usize)
@@ -36,7 +35,7 @@ fn light_one(near: &mut [u8; 16384], grid: Grid, v: usize, from: Vertex, number:
     ensures stays { (u m : ℕ) → HasMove (get_or near.old u 0) m → HasMove (get_or near.new u 0) m }
     ensures long { length near.new ≡ 16384 }
 {
-    let Entered::At(u) = entered_by(grid, v, from, number) else {
+    let Some(u) = entered_by(grid, v, from, number) else {
         return;
     };
     near[u] = with_move(near[u], number + 1 - 2 * (number % 2));
@@ -70,87 +69,77 @@ fn lower_start(settled: Settled, start: usize) -> usize
     if settled.distance != 0 {
         return start;
     }
-    let vertex = settled.place.vertex;
-    if vertex < start { vertex } else { start }
+    start.min(settled.place.vertex)
 }
 
 // The place of a number gets a lead where a move of its vertex's byte leads on; answers the lower start. No
 // other move does.
 fn retrace_place(
-    tech: Tech,
-    prices: &[usize; 40],
+    prices: &Prices,
     seen: &[u8; 16384],
     spots: &[u8; 16384],
-    bounds: &[u64; 528],
+    bounds: &Bounds,
     near: &mut [u8; 16384],
     work: &mut [u64],
     item: usize,
     best: u64,
     start: usize,
 ) -> usize
-    requires tech_fits { (TechFits tech) × (Priced (tech_by tech) prices.now) × (item < places (tech_by tech)) × (places (tech_by tech) ≤ length work.old) × (length near.old ≡ 16384)
-        × (0 < costs (tech_by tech) bounds.now work.old item) × (key_of (get_or work.old item 0) ≤ 2 ^ 41) × (costs (tech_by tech) bounds.now work.old item ≤ suc (dearest_move * most_items))
-        × (SmallBounds bounds.now) }
-    requires by_index { (e : ℕ) → costs (tech_by tech) bounds.now work.old item ≡ suc e
-        → OnlyMoves (tech_by tech) (seen_by tech seen.now) spots.now bounds.now work.old best (place_at tech.largest item) e
-        (get_or near.old (place_at tech.largest item).vertex 0) }
-    ensures { Answered (tech_by tech) (seen_by tech seen.now) spots.now bounds.now best item
-        (place_at tech.largest item) near.old work.old near.new work.new start result }
+    requires known { (item < places (tech_by prices.now.tech)) × (places (tech_by prices.now.tech) ≤ length work.old) × (length near.old ≡ 16384)
+        × (0 < costs (tech_by prices.now.tech) bounds.now.entries work.old item) × (key_of (get_or work.old item 0) ≤ 2 ^ 41) × (costs (tech_by prices.now.tech) bounds.now.entries work.old item ≤ suc (dearest_move * most_items)) }
+    requires by_index { (e : ℕ) → costs (tech_by prices.now.tech) bounds.now.entries work.old item ≡ suc e
+        → OnlyMoves (tech_by prices.now.tech) (seen_by prices.now.tech seen.now) spots.now bounds.now.entries work.old best (place_at prices.now.tech.largest item) e
+        (get_or near.old (place_at prices.now.tech.largest item).vertex 0) }
+    ensures { Answered (tech_by prices.now.tech) (seen_by prices.now.tech seen.now) spots.now bounds.now.entries best item
+        (place_at prices.now.tech.largest item) near.old work.old near.new work.new start result }
 {
-    let place = place_of(tech.largest, item);
+    let place = place_of(prices.tech.largest, item);
     let v = place.vertex;
     let moves = near[v];
     if moves == 0 {
         return start;
     }
-    let vertex = vertex_by(tech.grid, v);
-    let distance = (key_of(work, item) - 1 - bound_of(bounds, vertex)) / 16;
+    let vertex = vertex_by(prices.tech.grid, v);
+    let distance = (key_of(work, item) - 1 - bounds.of(vertex)) / 16;
     let settled = Settled {
         place,
         vertex,
         distance,
     };
-    let lead = lowest_among(
-        tech, prices, seen, spots, bounds, work, settled, moves, best,
-    );
-    if 4 <= lead {
+    let Some(lead) = lowest_among(prices, seen, spots, bounds, work, settled, moves, best) else {
         return start;
-    }
+    };
     put_lead(work, item, lead);
-    light(near, tech.grid, v, vertex);
+    light(near, prices.tech.grid, v, vertex);
     lower_start(settled, start)
 }
 
 // All places of cheapest joins get leads after a search that found an unjoined pin; answers the lowest vertex
 // of the tree whose place has one. Before it no place has one. Only the moves of a vertex's byte may lead on.
 pub fn retrace(
-    tech: Tech,
-    prices: &[usize; 40],
+    prices: &Prices,
     seen: &[u8; 16384],
     spots: &[u8; 16384],
-    bounds: &[u64; 528],
+    bounds: &Bounds,
     near: &mut [u8; 16384],
     work: &mut [u64],
     settled: usize,
     best: u64,
 ) -> usize
-    requires { (TechFits tech) × (Priced (tech_by tech) prices.now) × (best < no_goal) × ((size : ℕ)
-        × (Ended (tech_by tech) (seen_by tech seen.now) spots.now bounds.now near.old work.old size settled best))
-        × (Bounding (tech_by tech) spots.now bounds.now) × (SmallBounds bounds.now) }
-    ensures charted { Charted (tech_by tech) (seen_by tech seen.now) spots.now bounds.now work.new best }
-    ensures start { result ≡ lowest_led (tech_by tech) (seen_by tech seen.now) spots.now work.new }
-    ensures laid { (size last : ℕ) → Laid (places (tech_by tech)) size settled last work.old → Laid (places (tech_by tech)) size settled last work.new }
-    ensures kept { Beyond (places (tech_by tech) + places (tech_by tech)) work.new work.old }
+    requires { (best < no_goal) × ((size : ℕ)
+        × (Ended (tech_by prices.now.tech) (seen_by prices.now.tech seen.now) spots.now bounds.now.entries near.old work.old size settled best))
+        × (Bounding (tech_by prices.now.tech) spots.now bounds.now.entries) }
+    ensures charted { Charted (tech_by prices.now.tech) (seen_by prices.now.tech seen.now) spots.now bounds.now.entries work.new best }
+    ensures start { result ≡ lowest_led (tech_by prices.now.tech) (seen_by prices.now.tech seen.now) spots.now work.new }
+    ensures laid { (size last : ℕ) → Laid (places (tech_by prices.now.tech)) size settled last work.old → Laid (places (tech_by prices.now.tech)) size settled last work.new }
+    ensures kept { Beyond (places (tech_by prices.now.tech) + places (tech_by prices.now.tech)) work.new work.old }
 {
-    let n = tech.places();
-    let mut start = tech.grid.vertices();
-    let mut left = settled;
-    while 0 < left {
-        left -= 1;
+    let n = prices.places();
+    // Above every vertex.
+    let mut start = prices.tech.grid.vertices();
+    for left in (0..settled).rev() {
         let item = work[n + n - 1 - left] as usize;
-        start = retrace_place(
-            tech, prices, seen, spots, bounds, near, work, item, best, start,
-        );
+        start = retrace_place(prices, seen, spots, bounds, near, work, item, best, start);
     }
     start
 }

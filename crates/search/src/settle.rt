@@ -1,30 +1,40 @@
 // The search: places are settled in the order of their cost with what is left at least, until no open one is
 // below the cheapest goal found.
-ghost use Rattle.std.specs.Prelude.{◌≡◌, List, ℕ, ◌+◌, ◌-◌, ◌<◌, length, set};
+ghost use Rattle.std.specs.Prelude.{◌≡◌, List, ℕ, Some, ◌≤◌, ◌+◌, ◌-◌, ◌<◌, length, set};
 ghost use Rattle.heap.specs.Heaps.{Heaped, Removed};
 ghost use Rattle.metal.specs.Codes.{Beyond};
 ghost use Rattle.rules.specs.Joins.{places};
-ghost use Rattle.rules.specs.PriceLists.{Priced};
-ghost use Rattle.rules.specs.Structs.{TechFits, tech_by, seen_by};
-ghost use Rattle.bounds.specs.Bounds.{Bounding, SmallBounds};
+ghost use Rattle.rules.specs.Structs.{tech_by, seen_by};
+ghost use Rattle.bounds.specs.Bounds.{Bounding};
+ghost use Rattle.search.specs.Fronts.{no_goal, best_of};
 ghost use Rattle.search.specs.Spreads.{Ended};
 ghost use Rattle.search.specs.Charts.{Blank};
 
 use crate::reach::{Front, reach_all};
 use crate::seed::seed;
+use bounds::bound::Bounds;
 use heap::cells::key_at;
 use heap::remove_least;
-use rules::price::Tech;
+use rules::price::Prices;
 
 // The cost of no goal.
 pub const NONE: u64 = 1099511627775;
 
-// The heap's size, how many places are settled, and the cost of the cheapest goal found.
+// The heap's size, how many places are settled, and the cost of the cheapest goal, where one is found.
 #[derive(Clone, Copy)]
 pub struct Found {
     pub size: usize,
     pub settled: usize,
-    pub best: u64,
+    pub best: Option<u64>,
+}
+
+// The cost of the cheapest goal, where one is found.
+fn cheapest(best: u64) -> Option<u64>
+    requires { best ≤ no_goal }
+    ensures is { best_of result ≡ best }
+    ensures below { (cost : ℕ) → result ≡ Some cost → cost < no_goal }
+{
+    if best < NONE { Some(best) } else { None }
 }
 
 // Takes the open place with the least cost into the list.
@@ -39,23 +49,22 @@ fn settle_next(work: &mut [u64], n: usize, size: usize, settled: usize) -> usize
 
 // The needed part of the slice is lent zero.
 pub fn settle(
-    tech: Tech,
-    prices: &[usize; 40],
+    prices: &Prices,
     seen: &[u8; 16384],
     spots: &[u8; 16384],
-    bounds: &[u64; 528],
+    bounds: &Bounds,
     near: &mut [u8; 16384],
     work: &mut [u64],
 ) -> Found
-    requires { (TechFits tech) × (Blank (tech_by tech) work.old) × (length near.old ≡ 16384) × (Bounding (tech_by tech) spots.now bounds.now)
-        × (SmallBounds bounds.now) × (Priced (tech_by tech) prices.now) }
-    ensures found { Ended (tech_by tech) (seen_by tech seen.now) spots.now bounds.now near.new work.new
-        result.size result.settled result.best }
-    ensures kept { Beyond (places (tech_by tech) + places (tech_by tech)) work.new work.old }
+    requires { (Blank (tech_by prices.now.tech) work.old) × (length near.old ≡ 16384) × (Bounding (tech_by prices.now.tech) spots.now bounds.now.entries) }
+    ensures found { Ended (tech_by prices.now.tech) (seen_by prices.now.tech seen.now) spots.now bounds.now.entries near.new work.new
+        result.size result.settled (best_of result.best) }
+    ensures below { (cost : ℕ) → result.best ≡ Some cost → cost < no_goal }
+    ensures kept { Beyond (places (tech_by prices.now.tech) + places (tech_by prices.now.tech)) work.new work.old }
 {
-    let n = tech.places();
+    let n = prices.places();
     let mut front = Front {
-        size: seed(tech, spots, bounds, work),
+        size: seed(prices, spots, bounds, work),
         best: NONE,
     };
     let mut settled = 0;
@@ -66,7 +75,7 @@ pub fn settle(
             return Found {
                 size: front.size,
                 settled,
-                best: front.best,
+                best: cheapest(front.best),
             };
         }
         let item = settle_next(work, n, front.size, settled);
@@ -75,13 +84,11 @@ pub fn settle(
             size: front.size - 1,
             best: front.best,
         };
-        front = reach_all(
-            tech, prices, seen, spots, bounds, near, work, item, top, rest,
-        );
+        front = reach_all(prices, seen, spots, bounds, near, work, item, top, rest);
     }
     Found {
         size: front.size,
         settled,
-        best: front.best,
+        best: cheapest(front.best),
     }
 }

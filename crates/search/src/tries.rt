@@ -1,212 +1,177 @@
 // One move from a settled place: where it leads, at which price. The rules' own functions are asked.
-ghost use Rattle.std.specs.Prelude.{◌≡◌, true, ◌≤◌, ◌<◌, ◌^◌, length};
+ghost use Rattle.std.specs.Prelude.{◌≡◌, ℕ, true, ◌≤◌, ◌<◌, ◌^◌, length};
 ghost use Rattle.job.specs.Structs.{grid_of};
+ghost use Rattle.job.specs.declared.penalty.Penalty.TheVariants.{Price};
 ghost use Rattle.rules.specs.Tracks.{at, entered};
 ghost use Rattle.rules.specs.Segments.{along, kind_of};
 ghost use Rattle.rules.specs.Steps.{step, priced};
 ghost use Rattle.rules.specs.Joins.{places};
-ghost use Rattle.rules.specs.PriceLists.{Priced};
-ghost use Rattle.rules.specs.Prices.{charge};
-ghost use Rattle.rules.specs.Structs.{direction_of, Via, tech_by, seen_by, owed_cost, by_owed, place_of};
-ghost use Rattle.bounds.specs.Bounds.{SmallBounds};
+ghost use Rattle.rules.specs.Structs.{direction_of, Via, tech_by, seen_by, cost_of, owed_cost, by_owed, place_of};
 ghost use Rattle.search.specs.Tries.{AtPlace, tried_of, OwedFor, fresh_code, Passed, Attempted};
 
 use crate::places::code_of;
 use crate::settled::Settled;
-use bounds::bound::bound_entered;
+use bounds::bound::Bounds;
 use heap::cells::key_of;
 use job::penalty::Penalty;
 use rules::overhead::{overhead_of, overhead_price};
-use rules::price::{Tech, line_at};
-use rules::segment::{Direction, Grown, Segment, grow};
-use rules::step::{Entry, Place, entry_of};
+use rules::price::Prices;
+use rules::segment::{Direction, Segment, grow};
+use rules::step::{Place, entry_of};
 use rules::track::{Kind, kind_of, track_of};
 
-// What a via owes does not depend on the via: it is asked once for a settled place, and held as the field of
-// a penalty. No field is this number, which stands before it is asked.
-pub const UNASKED: usize = 65_536;
-
-// Where a move leads, and its price with the overhead; or that it leads nowhere, or would lower nothing
-// there.
+// Where a move leads, and its price with the overhead.
 #[derive(Clone, Copy)]
-pub enum Tried {
-    Stopped,
-    To(Place, usize),
+pub struct Arrival {
+    pub place: Place,
+    pub price: usize,
 }
 
-// A move that was tried, and what a via owes.
+// A move that was tried: nothing where it leads nowhere, or would lower nothing there. What a via owes does
+// not depend on the via: it is asked once for a settled place, and is nothing before.
 #[derive(Clone, Copy)]
 pub struct Attempt {
-    pub tried: Tried,
-    pub owed: usize,
+    pub tried: Option<Arrival>,
+    pub owed: Option<Penalty>,
 }
 
 // A step along the track makes the segment longer.
 fn try_along(
-    tech: Tech,
-    prices: &[usize; 40],
+    prices: &Prices,
     seen: &[u8; 16384],
     settled: Settled,
     number: usize,
     toward: Direction,
-    owed: usize,
-) -> Attempt
-    requires { (AtPlace tech settled) × (Priced (tech_by tech) prices.now) × (kind_of number ≡ along (direction_of toward)) }
-    ensures tried { tried_of result.tried ≡ priced (step (tech_by tech) (seen_by tech seen.now) (place_of settled.place) number) }
-    ensures owed { result.owed ≡ owed }
+) -> Option<Arrival>
+    requires { (AtPlace prices.now settled) × (kind_of number ≡ along (direction_of toward)) }
+    ensures { tried_of result ≡ priced (step (tech_by prices.now.tech) (seen_by prices.now.tech seen.now) (place_of settled.place) number) }
 {
     let place = settled.place;
     let from = settled.vertex;
-    let Entry::Open(into, price) = entry_of(tech.grid, prices, seen, place.vertex, from, number)
-    else {
-        return Attempt {
-            tried: Tried::Stopped,
-            owed,
-        };
-    };
+    let entry = entry_of(prices, seen, place.vertex, from, number)?;
     let segment = place.segment;
-    let line = line_at(prices, from.layer);
-    let Grown::To(longer) = grow(line.least, toward, segment) else {
-        return Attempt {
-            tried: Tried::Stopped,
-            owed,
-        };
-    };
+    let line = prices.line(from.layer);
+    let longer = grow(line.least, toward, segment)?;
     let next = Place {
-        vertex: into,
+        vertex: entry.into,
         segment: longer,
     };
-    Attempt {
-        tried: Tried::To(next, price),
-        owed,
-    }
+    Some(Arrival {
+        place: next,
+        price: entry.price,
+    })
 }
 
 // Whether the fresh place at a vertex has a key that no via at this price lowers, whatever it owes.
 fn passed_over(
-    tech: Tech,
-    bounds: &[u64; 528],
+    prices: &Prices,
+    bounds: &Bounds,
     work: &[u64],
     settled: Settled,
     number: usize,
     into: usize,
     price: usize,
 ) -> bool
-    requires { (AtPlace tech settled) × (SmallBounds bounds.now) × (places (tech_by tech) ≤ length work.now)
-        × (entered (grid_of tech.grid) settled.place.vertex number ≡ at into) × (price < 2 ^ 20) }
-    ensures { result ≡ true → Passed (tech_by tech) bounds.now work.now settled.distance price (fresh_code (tech_by tech) into) }
+    requires { (AtPlace prices.now settled) × (places (tech_by prices.now.tech) ≤ length work.now)
+        × (entered (grid_of prices.now.tech.grid) settled.place.vertex number ≡ at into) × (price < 2 ^ 20) }
+    ensures { result ≡ true → Passed (tech_by prices.now.tech) bounds.now.entries work.now settled.distance price (fresh_code (tech_by prices.now.tech) into) }
 {
     let fresh = Place {
         vertex: into,
         segment: Segment::Fresh,
     };
-    let key = key_of(work, code_of(tech.largest, fresh));
+    let key = key_of(work, code_of(prices.tech.largest, fresh));
     if key == 0 {
         return false;
     }
-    let left = bound_entered(bounds, tech.grid, settled.vertex, number);
+    let left = bounds.entered(prices.tech.grid, settled.vertex, number);
     key <= 16 * (settled.distance + price as u64) + left + 1
 }
 
 // What a via owes, asked once.
-fn ask_owed(
-    tech: Tech,
-    prices: &[usize; 40],
-    seen: &[u8; 16384],
-    settled: Settled,
-    owed: usize,
-) -> usize
-    requires { (AtPlace tech settled) × (Priced (tech_by tech) prices.now)
-        × (OwedFor (tech_by tech) (seen_by tech seen.now) (place_of settled.place) owed) }
-    ensures told { charge result ≡ owed_cost (tech_by tech) (seen_by tech seen.now) (place_of settled.place) }
-    ensures small { result < 65536 }
+fn ask_owed(prices: &Prices, seen: &[u8; 16384], settled: Settled, owed: Option<Penalty>) -> Penalty
+    requires { (AtPlace prices.now settled) × (OwedFor (tech_by prices.now.tech) (seen_by prices.now.tech seen.now) (place_of settled.place) owed) }
+    ensures { cost_of result ≡ owed_cost (tech_by prices.now.tech) (seen_by prices.now.tech seen.now) (place_of settled.place) }
 {
-    if owed < UNASKED {
-        return owed;
+    if let Some(asked) = owed {
+        return asked;
     }
     let place = settled.place;
     let segment = place.segment;
     let from = settled.vertex;
-    let track = track_of(tech.grid, from);
+    let track = track_of(prices.tech.grid, from);
     let overhead = overhead_of(track, prices, seen, place.vertex, from, segment);
-    match overhead_price(line_at(prices, from.layer), overhead) {
-        Penalty::Closed => Penalty::CLOSED,
-        Penalty::Price(over) => over,
-    }
+    overhead_price(prices.line(from.layer), overhead)
 }
 
 // A via to a vertex at a price of entering, with what it owes.
-fn to_fresh(into: usize, price: usize, owed: usize) -> Attempt
-    requires { (price < 2 ^ 20) × (owed < 65536) }
-    ensures tried { tried_of result.tried ≡ by_owed into price (charge owed) }
-    ensures owed { result.owed ≡ owed }
+fn to_fresh(into: usize, price: usize, owed: Penalty) -> Option<Arrival>
+    requires { (price < 2 ^ 20) × ((over : ℕ) → owed ≡ Price over → over < 65536) }
+    ensures { tried_of result ≡ by_owed into price (cost_of owed) }
 {
-    let Penalty::Price(over) = Penalty::from_field(owed) else {
-        return Attempt {
-            tried: Tried::Stopped,
-            owed,
-        };
+    let Penalty::Price(over) = owed else {
+        return None;
     };
     let next = Place {
         vertex: into,
         segment: Segment::Fresh,
     };
-    Attempt {
-        tried: Tried::To(next, price + over),
-        owed,
-    }
+    Some(Arrival {
+        place: next,
+        price: price + over,
+    })
 }
 
 // A via makes the segment fresh. One that is passed over is not asked what it owes.
 fn try_via(
-    tech: Tech,
-    prices: &[usize; 40],
+    prices: &Prices,
     seen: &[u8; 16384],
-    bounds: &[u64; 528],
+    bounds: &Bounds,
     work: &[u64],
     settled: Settled,
     number: usize,
-    owed: usize,
+    owed: Option<Penalty>,
 ) -> Attempt
-    requires { (AtPlace tech settled) × (Priced (tech_by tech) prices.now) × (SmallBounds bounds.now) × (places (tech_by tech) ≤ length work.now)
-        × (OwedFor (tech_by tech) (seen_by tech seen.now) (place_of settled.place) owed) × (Via (kind_of number)) }
-    ensures { Attempted (tech_by tech) (seen_by tech seen.now) bounds.now work.now (place_of settled.place) settled.distance number result }
+    requires { (AtPlace prices.now settled) × (places (tech_by prices.now.tech) ≤ length work.now)
+        × (OwedFor (tech_by prices.now.tech) (seen_by prices.now.tech seen.now) (place_of settled.place) owed) × (Via (kind_of number)) }
+    ensures { Attempted (tech_by prices.now.tech) (seen_by prices.now.tech seen.now) bounds.now.entries work.now (place_of settled.place) settled.distance number result }
 {
     let place = settled.place;
     let from = settled.vertex;
-    let Entry::Open(into, price) = entry_of(tech.grid, prices, seen, place.vertex, from, number)
-    else {
-        return Attempt {
-            tried: Tried::Stopped,
-            owed,
-        };
+    let Some(entry) = entry_of(prices, seen, place.vertex, from, number) else {
+        return Attempt { tried: None, owed };
     };
-    if passed_over(tech, bounds, work, settled, number, into, price) {
-        return Attempt {
-            tried: Tried::Stopped,
-            owed,
-        };
+    let into = entry.into;
+    let price = entry.price;
+    if passed_over(prices, bounds, work, settled, number, into, price) {
+        return Attempt { tried: None, owed };
     }
-    to_fresh(into, price, ask_owed(tech, prices, seen, settled, owed))
+    let over = ask_owed(prices, seen, settled, owed);
+    Attempt {
+        tried: to_fresh(into, price, over),
+        owed: Some(over),
+    }
 }
 
 // The move's kind tells a step from a via.
 pub fn try_move(
-    tech: Tech,
-    prices: &[usize; 40],
+    prices: &Prices,
     seen: &[u8; 16384],
-    bounds: &[u64; 528],
+    bounds: &Bounds,
     work: &[u64],
     settled: Settled,
     number: usize,
-    owed: usize,
+    owed: Option<Penalty>,
 ) -> Attempt
-    requires { (AtPlace tech settled) × (Priced (tech_by tech) prices.now) × (SmallBounds bounds.now) × (places (tech_by tech) ≤ length work.now)
-        × (OwedFor (tech_by tech) (seen_by tech seen.now) (place_of settled.place) owed) }
-    ensures { Attempted (tech_by tech) (seen_by tech seen.now) bounds.now work.now (place_of settled.place) settled.distance number result }
+    requires { (AtPlace prices.now settled) × (places (tech_by prices.now.tech) ≤ length work.now)
+        × (OwedFor (tech_by prices.now.tech) (seen_by prices.now.tech seen.now) (place_of settled.place) owed) }
+    ensures { Attempted (tech_by prices.now.tech) (seen_by prices.now.tech seen.now) bounds.now.entries work.now (place_of settled.place) settled.distance number result }
 {
     let Kind::Along(toward) = kind_of(number) else {
-        return try_via(tech, prices, seen, bounds, work, settled, number, owed);
+        return try_via(prices, seen, bounds, work, settled, number, owed);
     };
-    try_along(tech, prices, seen, settled, number, toward, owed)
+    Attempt {
+        tried: try_along(prices, seen, settled, number, toward),
+        owed,
+    }
 }

@@ -1,5 +1,5 @@
 -- The laws of the tree's bytes.
---     Turns     a turn of each loop over pins
+--     Turns     the pins of a net, one by one
 --     Spots     what the bytes tell after pins and vertices are put
 pub mod Turns
 pub mod Spots

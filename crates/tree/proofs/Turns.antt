@@ -1,16 +1,17 @@
--- A turn of each loop over the pins of a net.
---     pin-count, pin_vertex, pin_first     the pins that are there, and one by its index
---     put_turn, put_done                   putting a byte at each
---     some_found, some_turn, some_done     looking for an unjoined one
---     begun_some, begun_none               the bytes before the first join
+-- The pins of a net, one by one.
+--     pin-count, pin_vertex      the pins that are there, and one by its index
+--     put_turn, put_done         putting a byte at each
+--     some_told                  looking for an unjoined one
+--     begun_some, begun_none     the bytes before the first join
 use Prim.Native.Nat.{ℕ, zero, suc, ◌≤◌, ◌<◌}
-use mathlib.Core.Path.{◌≡◌, refl, ap, ◌∙◌}
+use mathlib.Core.Path.{◌≡◌, refl, ap}
 use mathlib.Core.List.{List, [], ◌∷◌}
-use mathlib.Core.Bool.{true, false}
+use mathlib.Core.Bool.{Bool, ◌||◌}
 use native.Mathlib.Nat.{not-suc-le-zero}
 use lib.ListN.{length, get_or, set, take, drop, drop_of_length-le}
 use lib.Seq.{length-take-le, drop-cons, get_or-take}
 use lib.Dec.{eqb}
+use Rattle.std.specs.List.{list_any}
 use Rattle.job.specs.Lists.{any}
 use Rattle.rules.proofs.Standing.{all_at}
 use Rattle.tree.specs.Spots.{Pins, put_all, begun_spots, some_unjoined}
@@ -20,45 +21,27 @@ module _ {pins : List ℕ} {count : ℕ} (held : Pins pins count) where
   pub pin-count : length (take count pins) ≡ count
   pin-count = length-take-le count pins held.there
 
-  module _ {i : ℕ} (on : i < count) where
-    -- a pin by its index is a vertex
-    pub pin_vertex : get_or pins i 0 < 16384
-    pin_vertex = rw (get_or-take count pins i 0 on) at (all_at (λ v. v < 16384) (take count pins) i 0 held.on_grid (rw pin-count on))
+  -- a pin by its index is a vertex
+  pub pin_vertex : {i : ℕ} → i < count → get_or pins i 0 < 16384
+  pin_vertex {i} on =
+      rw (get_or-take count pins i 0 on) at (all_at (λ v. v < 16384) (take count pins) i 0 held.on_grid (rw pin-count on))
 
-    -- it is the first of those left
-    pub pin_first : drop i (take count pins) ≡ get_or pins i 0 ∷ drop (suc i) (take count pins)
-    pin_first = drop-cons (take count pins) i 0 (rw pin-count on) ∙ ap (λ (v : ℕ). v ∷ drop (suc i) (take count pins)) (get_or-take count pins i 0 on)
-
-    -- putting a byte at the rest
-    pub put_turn : (byte : ℕ) (spots : List ℕ)
-        → put_all byte (drop i (take count pins)) spots ≡ put_all byte (drop (suc i) (take count pins)) (set spots (get_or pins i 0) byte)
-    unfolding put_all
-    put_turn byte spots = rw pin_first refl
-
-    -- an unjoined one is found
-    pub some_found : (spots : List ℕ) → get_or spots (get_or pins i 0) 0 ≡ 2 → some_unjoined spots (drop i (take count pins)) ≡ true
-    unfolding some_unjoined any
-    some_found spots e = rw (pin_first, e) refl
-
-    -- this one is not unjoined
-    pub some_turn : (spots : List ℕ) → eqb (get_or spots (get_or pins i 0) 0) 2 ≡ false
-        → some_unjoined spots (drop i (take count pins)) ≡ some_unjoined spots (drop (suc i) (take count pins))
-    unfolding some_unjoined any
-    some_turn spots e = rw (pin_first, e) refl
+module _ (pins : List ℕ) {i : ℕ} (byte : ℕ) (spots : List ℕ) where
+  -- the byte is put at the first of those left, and then at the rest
+  pub put_turn : i < length pins → put_all byte (drop i pins) spots ≡ put_all byte (drop (suc i) pins) (set spots (get_or pins i 0) byte)
+  unfolding put_all
+  put_turn on = rw (drop-cons pins i 0 on) refl
 
   -- none is left
-  none_left : {i : ℕ} → count ≤ i → drop i (take count pins) ≡ []
-  none_left {i} h = drop_of_length-le (take count pins) {i = i} (rw pin-count h)
-
-  -- all are put
-  pub put_done : {i : ℕ} (byte : ℕ) (spots : List ℕ) → count ≤ i → put_all byte (drop i (take count pins)) spots ≡ spots
+  pub put_done : length pins ≤ i → put_all byte (drop i pins) spots ≡ spots
   unfolding put_all
-  put_done byte spots h = rw (none_left h) refl
+  put_done h = rw (drop_of_length-le pins {i = i} h) refl
 
-  -- none is unjoined
-  pub some_done : {i : ℕ} (spots : List ℕ) → count ≤ i → some_unjoined spots (drop i (take count pins)) ≡ false
-  unfolding some_unjoined any
-  some_done spots h = rw (none_left h) refl
+-- one is unjoined where the library's test says so
+pub some_told : (spots pins : List ℕ) → list_any (λ v. eqb (get_or spots v 0) 2) pins ≡ some_unjoined spots pins
+unfolding some_unjoined any
+some_told spots [] = refl
+some_told spots (p ∷ ps) = ap (λ (b : Bool). eqb (get_or spots p 0) 2 || b) (some_told spots ps)
 
 -- the first pin is the tree
 pub begun_some : (pins : List ℕ) (count : ℕ) (spots : List ℕ) → Pins pins count → (count ≡ 0 → ⊥)

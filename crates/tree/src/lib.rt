@@ -1,19 +1,20 @@
 // The tree and the unjoined pins of the net at hand: a byte for each vertex.
 #![tactic(auto)]
 
-ghost use Rattle.std.specs.Prelude.{◌≡◌, take};
+ghost use Rattle.std.specs.Prelude.{◌≡◌, ◌<◌, take};
+ghost use Rattle.job.specs.Lists.{All};
 ghost use Rattle.tree.specs.Spots.{Pins, put_all, begun_spots, some_unjoined};
 
 pub const ON_TREE: u8 = 1;
 
 pub const UNJOINED: u8 = 2;
 
-fn put_pins(spots: &mut [u8; 16384], pins: &[usize; 16], count: usize)
-    requires { Pins pins.now count }
-    ensures { spots.new ≡ put_all 2 (take count pins.now) spots.old }
+fn put_pins(spots: &mut [u8; 16384], pins: &[usize])
+    requires { All (λ v. v < 16384) pins.now }
+    ensures { spots.new ≡ put_all 2 pins.now spots.old }
 {
-    for i in 0..count {
-        spots[pins[i]] = UNJOINED;
+    for &pin in pins {
+        spots[pin] = UNJOINED;
     }
 }
 
@@ -25,7 +26,7 @@ pub fn begin_tree(spots: &mut [u8; 16384], pins: &[usize; 16], count: usize)
     if count == 0 {
         return;
     }
-    put_pins(spots, pins, count);
+    put_pins(spots, &pins[..count]);
     spots[pins[0]] = ON_TREE;
 }
 
@@ -33,10 +34,5 @@ pub fn some_unjoined(spots: &[u8; 16384], pins: &[usize; 16], count: usize) -> b
     requires { Pins pins.now count }
     ensures { result ≡ some_unjoined spots.now (take count pins.now) }
 {
-    for i in 0..count {
-        if spots[pins[i]] == UNJOINED {
-            return true;
-        }
-    }
-    false
+    pins[..count].iter().any(|&pin| spots[pin] == UNJOINED)
 }

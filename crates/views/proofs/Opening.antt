@@ -8,8 +8,8 @@ use mathlib.Core.List.{List, [], ◌∷◌}
 use mathlib.Core.Bool.{Bool, true, false, ◌||◌, cond}
 use native.Mathlib.Numerals.{add-one}
 use native.Mathlib.Omega.{arith}
-use lib.ListN.{length, get_or, set, take, drop, length-take, length-set, drop_of_length-le}
-use lib.Seq.{get_or-set_same, get_or-set_other, slice-cons}
+use lib.ListN.{length, get_or, set, drop, length-set, drop_of_length-le}
+use lib.Seq.{get_or-set_same, get_or-set_other, drop-cons}
 use lib.Dec.{eqb}
 use borrow.Author.Tests.{eqb-true, eqb-false}
 use Rattle.job.specs.Lists.{any, All}
@@ -17,44 +17,43 @@ use Rattle.rules.specs.Views.{member}
 use Rattle.views.specs.Sight.{taken_code, own_byte, opened}
 
 -- before a turn: opening the pins that are left gives all, and these lie in the arrays
-pub record PinsToOpen (n : ℕ) (codes pins : List ℕ) (count : ℕ) (before seen : List ℕ) (i : ℕ) : Type 0 where
-  pub within : All (λ v. v < 16384) (drop i (take count pins))
-  pub mapped : All (λ v. v < length codes) (drop i (take count pins))
-  pub rest : opened n codes (take count pins) before ≡ opened n codes (drop i (take count pins)) seen
+pub record PinsToOpen (n : ℕ) (codes pins before seen : List ℕ) (i : ℕ) : Type 0 where
+  pub within : All (λ v. v < 16384) (drop i pins)
+  pub mapped : All (λ v. v < length codes) (drop i pins)
+  pub rest : opened n codes pins before ≡ opened n codes (drop i pins) seen
 
 -- before the first turn no pin is open
-pub pins_begin : (n : ℕ) (codes pins : List ℕ) (count : ℕ) (seen : List ℕ) → All (λ v. v < 16384) (take count pins)
-    → All (λ v. v < length codes) (take count pins) → PinsToOpen n codes pins count seen seen 0
-pins_begin n codes pins count seen h k = record { within = h; mapped = k; rest = refl }
+pub pins_begin : (n : ℕ) (codes pins seen : List ℕ) → All (λ v. v < 16384) pins
+    → All (λ v. v < length codes) pins → PinsToOpen n codes pins seen seen 0
+pins_begin n codes pins seen h k = record { within = h; mapped = k; rest = refl }
 
-module _ {n : ℕ} {codes pins : List ℕ} {count : ℕ} {before seen : List ℕ} {i : ℕ} (h : PinsToOpen n codes pins count before seen i) where
+module _ {n : ℕ} {codes pins before seen : List ℕ} {i : ℕ} (h : PinsToOpen n codes pins before seen i) where
   -- the pins that are left begin with the next
-  next_pin : i < count → count ≤ length pins → drop i (take count pins) ≡ get_or pins i 0 ∷ drop (suc i) (take count pins)
-  next_pin more room = slice-cons i count pins 0 more room
+  next_pin : i < length pins → drop i pins ≡ get_or pins i 0 ∷ drop (suc i) pins
+  next_pin more = drop-cons pins i 0 more
 
   -- the next pin lies in the arrays
-  pub pin-within : i < count → count ≤ length pins → (get_or pins i 0 < 16384) × (get_or pins i 0 < length codes)
+  pub pin-within : i < length pins → (get_or pins i 0 < 16384) × (get_or pins i 0 < length codes)
   unfolding All
-  pin-within more room = ((rw (next_pin more room) at h.within).0, (rw (next_pin more room) at h.mapped).0)
+  pin-within more = ((rw (next_pin more) at h.within).0, (rw (next_pin more) at h.mapped).0)
 
   -- a turn opens the next pin
-  pub pins_turn : i < count → count ≤ length pins
-      → PinsToOpen n codes pins count before (set seen (get_or pins i 0) (own_byte n (get_or codes (get_or pins i 0) 0) (get_or seen (get_or pins i 0) 0))) (i + 1)
+  pub pins_turn : i < length pins
+      → PinsToOpen n codes pins before (set seen (get_or pins i 0) (own_byte n (get_or codes (get_or pins i 0) 0) (get_or seen (get_or pins i 0) 0))) (i + 1)
   unfolding All opened
-  pins_turn more room =
+  pins_turn more =
       rw add-one
       (record {
-        within = (rw (next_pin more room) at h.within).1;
-        mapped = (rw (next_pin more room) at h.mapped).1;
-        rest = rw (next_pin more room) at h.rest;
+        within = (rw (next_pin more) at h.within).1;
+        mapped = (rw (next_pin more) at h.mapped).1;
+        rest = rw (next_pin more) at h.rest;
       })
 
   -- after the last turn all pins are open
-  pub pins_end : count ≤ i → seen ≡ opened n codes (take count pins) before
+  pub pins_end : length pins ≤ i → seen ≡ opened n codes pins before
   unfolding opened
   pins_end done =
-      let few : length (take count pins) ≤ i = rw length-take (omega arith) in
-      let none : drop i (take count pins) ≡ [] = drop_of_length-le (take count pins) few in
+      let none : drop i pins ≡ [] = drop_of_length-le pins {i = i} done in
       sym (rw none at h.rest)
 
 -- ---- the byte of a vertex

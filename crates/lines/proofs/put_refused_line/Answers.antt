@@ -7,26 +7,6 @@ use Rattle.lines.proofs.Decimals.{length_word, length_refused}
 use Rattle.lines.proofs.Putting.{put_then, written}
 use Rattle.lines.proofs.put_refused_line.Goals as goal
 
-pub put_decimal-at-requires : goal.put_decimal-at-requires
-put_decimal-at-requires c =
-    let a = c.args in
-    omega (arith, length_word a.number (omega arith), c.put_text-at.ensures.next_is)
-
-pub put_text-at-requires-2 : goal.put_text-at-requires-2
-put_text-at-requires-2 c =
-    let a = c.args in
-    omega (arith, length_word a.number (omega arith), c.put_text-at.ensures.next_is, c.put_decimal-at.ensures.next_is)
-
-pub put_decimal-at-requires-2 : goal.put_decimal-at-requires-2
-put_decimal-at-requires-2 c =
-    let a = c.args in
-    omega (arith, length_word a.number (omega arith), length_word a.place (omega arith), c.put_text-at.ensures.next_is, c.put_decimal-at.ensures.next_is, c.put_text-at-2.ensures.next_is)
-
-pub put_text-requires : goal.put_text-requires
-put_text-requires c =
-    let a = c.args in
-    omega (arith, length_word a.number (omega arith), length_word a.place (omega arith), c.put_text-at.ensures.next_is, c.put_decimal-at.ensures.next_is, c.put_text-at-2.ensures.next_is, c.put_decimal-at-2.ensures.next_is)
-
 pub returns : goal.returns
 unfolding refused_line
 returns c =

@@ -7,12 +7,6 @@ use Rattle.tree.proofs.begin_tree.Goals as goal
 pub returns-then-count-eq0 : goal.returns-then-count-eq0
 returns-then-count-eq0 c = sym (begun_none _ _ c.if-count-eq0.true)
 
-pub put_pins-requires : goal.put_pins-requires
-put_pins-requires c = c.requires
-
-pub bounds-pins-0 : goal.bounds-pins-0
-bounds-pins-0 c = omega arith
-
 pub bounds-spots-pins : goal.bounds-spots-pins
 bounds-spots-pins c = pin_vertex c.requires (omega (arith, c.if-count-eq0.false))
 

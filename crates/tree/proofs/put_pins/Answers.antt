@@ -1,30 +1,15 @@
 -- `tree::put_pins` meets its contract.
-use mathlib.Core.Path.{refl, sym, ◌∙◌}
-use native.Mathlib.Omega.{arith}
+use mathlib.Core.Path.{sym, ◌∙◌}
 use Rattle.rules.proofs.Fitting.{one_more}
-use Rattle.tree.proofs.Turns.{pin_vertex, put_turn, put_done}
+use Rattle.rules.proofs.Standing.{all_at}
+use Rattle.tree.proofs.Turns.{put_turn, put_done}
 use Rattle.tree.proofs.put_pins.Goals as goal
 
-pub loop-i-init : goal.loop-i-init
-loop-i-init c = refl
+pub bounds-spots-pin : goal.bounds-spots-pin
+bounds-spots-pin c = all_at _ c.args.pins.now c.loop-pin.pin-index 0 c.requires c.loop-pin-test.true
 
-pub offset_bounds-pins-i : goal.offset_bounds-pins-i
-offset_bounds-pins-i c = omega (arith, c.loop-i-test.true, c.requires.few)
-
-pub bounds-pins-i : goal.bounds-pins-i
-bounds-pins-i c = omega (arith, c.loop-i-test.true, c.requires.few)
-
-pub bounds-spots-pins : goal.bounds-spots-pins
-bounds-spots-pins c = pin_vertex c.requires c.loop-i-test.true
-
-pub overflow_step-i : goal.overflow_step-i
-overflow_step-i c = omega (arith, c.loop-i-test.true, c.requires.few)
-
-pub loop-i-smaller : goal.loop-i-smaller
-loop-i-smaller c = omega (arith, c.loop-i-test.true)
-
-pub loop-i-preserved : goal.loop-i-preserved
-loop-i-preserved c = rw one_more (c.loop-i.invariant ∙ put_turn c.requires c.loop-i-test.true 2 _)
+pub loop-pin-preserved : goal.loop-pin-preserved
+loop-pin-preserved c = rw one_more (c.loop-pin.invariant ∙ put_turn _ 2 _ c.loop-pin-test.true)
 
 pub returns : goal.returns
-returns c = sym (c.loop-i.invariant ∙ put_done c.requires 2 _ c.loop-i-test.false)
+returns c = sym (c.loop-pin.invariant ∙ put_done _ 2 _ c.loop-pin-test.false)

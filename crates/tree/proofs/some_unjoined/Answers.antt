@@ -1,34 +1,25 @@
 -- `tree::some_unjoined` meets its contract.
-use mathlib.Core.Path.{refl, sym, ◌∙◌}
+use borrow.Author.Rules.{rules}
+use Prim.Native.Nat.{◌<◌}
+use mathlib.Core.Path.{◌∙◌}
 use native.Mathlib.Omega.{arith}
-use borrow.Author.Tests.{ne_eqb}
-use Rattle.rules.proofs.Fitting.{one_more}
-use Rattle.tree.proofs.Turns.{pin_vertex, some_found, some_turn, some_done}
+use lib.ListN.{get_or, take}
+use lib.Dec.{eqb}
+use Rattle.std.proofs.Common.{tests}
+use Rattle.std.proofs.lemmas.Iterator.{YieldsList-from_slice}
+use Rattle.std.proofs.lemmas.Iterator.Adapters.{serves_from_places}
+use Rattle.std.proofs.lemmas.Iterator.Search.{any_from_yields_List}
+use Rattle.rules.proofs.Standing.{all_at}
+use Rattle.tree.proofs.Turns.{some_told}
 use Rattle.tree.proofs.some_unjoined.Goals as goal
 
-pub loop-i-init : goal.loop-i-init
-loop-i-init c = refl
-
-pub offset_bounds-pins-i : goal.offset_bounds-pins-i
-offset_bounds-pins-i c = omega (arith, c.loop-i-test.true, c.requires.few)
-
-pub bounds-pins-i : goal.bounds-pins-i
-bounds-pins-i c = omega (arith, c.loop-i-test.true, c.requires.few)
-
-pub bounds-spots-pins : goal.bounds-spots-pins
-bounds-spots-pins c = pin_vertex c.requires c.loop-i-test.true
-
-pub returns-then-spots-pins-eq-UNJOINED : goal.returns-then-spots-pins-eq-UNJOINED
-returns-then-spots-pins-eq-UNJOINED c = sym (c.loop-i.invariant ∙ some_found c.requires c.loop-i-test.true _ c.if-spots-pins-eq-UNJOINED.true)
-
-pub overflow_step-i : goal.overflow_step-i
-overflow_step-i c = omega (arith, c.loop-i-test.true, c.requires.few)
-
-pub loop-i-smaller : goal.loop-i-smaller
-loop-i-smaller c = omega (arith, c.loop-i-test.true)
-
-pub loop-i-preserved : goal.loop-i-preserved
-loop-i-preserved c = rw one_more (c.loop-i.invariant ∙ some_turn c.requires c.loop-i-test.true _ (ne_eqb _ _ c.if-spots-pins-eq-UNJOINED.false))
+pub any-requires-clause-callable : goal.any-requires-clause-callable
+any-requires-clause-callable c =
+    let pins = take c.args.count c.args.pins.now in
+    serves_from_places {all = pins} (YieldsList-from_slice _ cc) (λ x q r. search (rules, tests))
+    (λ x k on e _ _ _ _ _ _. omega (arith, all_at (λ v. v < 16384) pins k x.now c.requires.on_grid on, e))
 
 pub returns : goal.returns
-returns c = sym (c.loop-i.invariant ∙ some_done c.requires _ c.loop-i-test.false)
+returns c =
+    any_from_yields_List (λ v. eqb (get_or c.args.spots.now v 0) 2) _ _ _ c.any.ensures.ran (YieldsList-from_slice _ cc) (λ x b q k. search (rules, tests))
+    ∙ some_told c.args.spots.now _

@@ -12,9 +12,6 @@ lay-requires c =
     let pre = c.requires in
     rw (c.lay_extension.ensures, laid_length) (omega (arith, pre.2, pre.3))
 
-pub bounds-spots-into : goal.bounds-spots-into
-bounds-spots-into c = let pre = c.requires in omega (arith, pre.2, pre.0.vertices)
-
 pub returns : goal.returns
 returns c = record {
   map = laid_then _ _ _ _ c.lay_extension.ensures c.lay.ensures;

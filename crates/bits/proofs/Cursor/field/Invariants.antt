@@ -1,11 +1,9 @@
--- `bits::Cursor::field` meets its contract. The invariant, `Read`: what is read so far is the field of the
--- bits passed. A turn reads the part that lies in one byte (`read_turn`), and the measure is the number of
--- bits still to read. Assumes nothing.
-use Rattle.bits.proofs.Turn.{Read}
+-- `bits::Cursor::field` meets its contract. The invariant: what is read so far is the field of the bits that
+-- stand before the byte. Assumes nothing.
+use Rattle.std.proofs.Common.{◌≡◌}
+use Rattle.bits.specs.Bits.{bits_of, field}
+use Rattle.bits.proofs.Turn.{before}
 use Rattle.bits.proofs.Cursor.field.Given as goal
 
-abbrev pub invariant-loop-left : goal.invariant-loop-left
-invariant-loop-left l = Read l.s l.initial.at l.width l.at l.left l.value
-
-abbrev pub decreases-loop-left : goal.decreases-loop-left
-decreases-loop-left l = l.left
+abbrev pub invariant-loop-index : goal.invariant-loop-index
+invariant-loop-index l = l.value ≡ field (bits_of l.s) l.self.at (before l.self.at l.width l.index)

@@ -8,47 +8,26 @@ use lib.Pow.{pow_mono}
 use Rattle.bits.proofs.Turn.{one_shl_pos, bits_joined, joined_below, in_byte, byte_with_byte}
 use Rattle.bits.proofs.part.in_byte.Goals as goal
 
-pub overflow_sub-kept : goal.overflow_sub-kept
-overflow_sub-kept c = omega arith
-
-pub overflow_shr-kept : goal.overflow_shr-kept
-overflow_shr-kept c = omega arith
-
-pub overflow_shl-part : goal.overflow_shl-part
-overflow_shl-part c = omega arith
-
 pub nonzero_rem-part : goal.nonzero_rem-part
 nonzero_rem-part c = one_shl_pos c.args.count (omega arith)
-
-pub overflow_shl-result : goal.overflow_shl-result
-overflow_shl-result c = omega arith
 
 pub overflow_add-result : goal.overflow_add-result
 overflow_add-result c =
     let a = c.args in
     record {
       fits =
-          rw (bits_joined a.byte a.skip a.count a.value (omega arith) c.requires)
+          rw (c.from.ensures, bits_joined a.byte a.skip a.count a.value (omega arith) c.requires)
           (lt_of_lt_of_le (joined_below a.byte a.skip a.count a.value (omega arith) c.requires) (pow_mono {i = a.skip + a.count} {j = 64} (omega arith)));
     }
-
-pub overflow_sub-result : goal.overflow_sub-result
-overflow_sub-result c = omega arith
-
-pub overflow_sub-result-2 : goal.overflow_sub-result-2
-overflow_sub-result-2 c = omega arith
-
-pub overflow_shl-result-2 : goal.overflow_shl-result-2
-overflow_shl-result-2 c = omega arith
 
 pub overflow_cast-result : goal.overflow_cast-result
 overflow_cast-result c =
     let a = c.args in
     record {
       fits =
-          rw (in_byte a.byte a.skip a.count a.value (omega arith) c.requires)
+          rw (c.from.ensures, in_byte a.byte a.skip a.count a.value (omega arith) c.requires)
           (byte_with_byte a.byte a.skip a.count a.value (omega arith) c.requires);
     }
 
 pub returns : goal.returns
-returns c = let a = c.args in in_byte a.byte a.skip a.count a.value (omega arith) c.requires
+returns c = let a = c.args in rw c.from.ensures (in_byte a.byte a.skip a.count a.value (omega arith) c.requires)

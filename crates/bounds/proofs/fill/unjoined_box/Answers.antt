@@ -1,50 +1,45 @@
 -- `bounds::fill::unjoined_box` meets its contract.
+use Prim.Native.Nat.{◌<◌}
 use mathlib.Core.Path.{◌≡◌, refl}
+use lib.Seq.{get_or-take}
 use native.Mathlib.Omega.{arith}
-use Rattle.tree.proofs.Turns.{pin_vertex}
+use Rattle.tree.proofs.Turns.{pin-count, pin_vertex}
 use Rattle.bounds.specs.Fills.{unjoined_box}
 use Rattle.bounds.proofs.Boxes.{pin_on_grid, box_turn, box_kept}
 use Rattle.bounds.proofs.fill.unjoined_box.Goals as goal
 use Rattle.bounds.proofs.fill.unjoined_box.Goals.{then-spots-pin-eq-UNJOINED, else-spots-pin-eq-UNJOINED}
 
-pub loop-i-init : goal.loop-i-init
+pub loop-pin-init : goal.loop-pin-init
 unfolding unjoined_box
-loop-i-init c = (omega arith, refl)
-
-pub offset_bounds-pins-i : goal.offset_bounds-pins-i
-offset_bounds-pins-i c = omega (arith, c.loop-i-test.true, c.requires.1.there.few)
-
-pub bounds-pins-i : goal.bounds-pins-i
-bounds-pins-i c = omega (arith, c.loop-i-test.true, c.requires.1.there.few)
+loop-pin-init c = (omega arith, refl)
 
 pub bounds-spots-pin : goal.bounds-spots-pin
-bounds-spots-pin c = pin_vertex c.requires.1.there c.loop-i-test.true
+bounds-spots-pin c =
+    let on : c.loop-pin.pin-index < c.args.count = omega (arith, c.loop-pin-test.true, pin-count c.requires.1.there) in
+    rw (get_or-take c.args.count c.args.pins.now c.loop-pin.pin-index 0 on) (pin_vertex c.requires.1.there on)
 
 pub vertex_by-requires : goal.vertex_by-requires
 vertex_by-requires c =
-    record { small = c.requires.0; there = pin_on_grid _ _ _ c.requires.1 c.loop-i-test.true }
+    let on : c.loop-pin.pin-index < c.args.count = omega (arith, c.loop-pin-test.true, pin-count c.requires.1.there) in
+    let same = get_or-take c.args.count c.args.pins.now c.loop-pin.pin-index 0 on in
+    record { small = c.requires.0; there = rw same (pin_on_grid _ _ _ c.requires.1 on) }
 
-pub overflow_step-i : goal.overflow_step-i
-overflow_step-i c = omega (arith, c.loop-i-test.true, c.requires.1.there.few)
-
-pub loop-i-smaller : goal.loop-i-smaller
-loop-i-smaller c = omega (arith, c.loop-i-test.true)
-
-pub loop-i-preserved : goal.loop-i-preserved
-loop-i-preserved c =
-    let loop = c.loop-i in
-    let i = loop.i in
+pub loop-pin-preserved : goal.loop-pin-preserved
+loop-pin-preserved c =
+    let loop = c.loop-pin in
+    let i = loop.pin-index in
     let so_far = loop.invariant.1 in
-    let on = c.loop-i-test.true in (
+    let on : i < c.args.count = omega (arith, c.loop-pin-test.true, pin-count c.requires.1.there) in
+    let same = get_or-take c.args.count c.args.pins.now i 0 on in (
       omega (arith, on),
       elim c.if-spots-pin-eq-UNJOINED.branch [
-        | then-spots-pin-eq-UNJOINED w ↦ rw w.around-is (box_turn _ _ _ i refl so_far w.if-spots-pin-eq-UNJOINED.true w.vertex_by.ensures w.widened_box-around.ensures)
-        | else-spots-pin-eq-UNJOINED w ↦ rw w.around-is (box_kept _ _ _ i refl so_far w.if-spots-pin-eq-UNJOINED.false)
+        | then-spots-pin-eq-UNJOINED w ↦ rw w.around-is (box_turn _ _ _ i same so_far w.if-spots-pin-eq-UNJOINED.true w.vertex_by.ensures w.widened-around.ensures)
+        | else-spots-pin-eq-UNJOINED w ↦ rw w.around-is (box_kept _ _ _ i same so_far w.if-spots-pin-eq-UNJOINED.false)
       ],
     )
 
 pub returns : goal.returns
 returns c =
-    let inv = c.loop-i.invariant in
-    let done : c.loop-i.i ≡ c.args.count = omega (arith, inv.0, c.loop-i-test.false) in
+    let inv = c.loop-pin.invariant in
+    let done : c.loop-pin.pin-index ≡ c.args.count = omega (arith, inv.0, c.loop-pin-test.false, pin-count c.requires.1.there) in
     rw done at inv.1

@@ -1,16 +1,24 @@
 -- `counts::moves::count_way` meets its contract: up, down, or along.
+use native.Mathlib.Omega.{arith}
 use borrow.Author.Tests.{lt-ltb, le-ltb}
+use Rattle.std.proofs.lemmas.Cmp.{ranked}
 use Rattle.counts.specs.Counts.{way_count}
 use Rattle.counts.proofs.moves.count_way.Goals as goal
 
-pub returns-then-left-entered : goal.returns-then-left-entered
+pub returns-in-Less : goal.returns-in-Less
 unfolding way_count
-returns-then-left-entered c = rw (lt-ltb _ _ c.if-left-entered.true) c.add_count.ensures
+returns-in-Less c =
+    let below = rw c.in-Less.is at (ranked c.args.left c.args.entered c.cmp.result c.cmp.ensures) in
+    rw (lt-ltb _ _ below) c.add_count.ensures
 
-pub returns-then-entered-left : goal.returns-then-entered-left
+pub returns-in-Greater : goal.returns-in-Greater
 unfolding way_count
-returns-then-entered-left c = rw (le-ltb _ _ c.if-left-entered.false, lt-ltb _ _ c.if-entered-left.true) c.add_count-then-entered-left.ensures
+returns-in-Greater c =
+    let above = rw c.in-Greater.is at (ranked c.args.left c.args.entered c.cmp.result c.cmp.ensures) in
+    rw (le-ltb c.args.left c.args.entered (omega (arith, above)), lt-ltb _ _ above) c.add_count-in-Greater.ensures
 
-pub returns-else-entered-left : goal.returns-else-entered-left
+pub returns-in-Equal : goal.returns-in-Equal
 unfolding way_count
-returns-else-entered-left c = rw (le-ltb _ _ c.if-left-entered.false, le-ltb _ _ c.if-entered-left.false) c.add_count-else-entered-left.ensures
+returns-in-Equal c =
+    let same = rw c.in-Equal.is at (ranked c.args.left c.args.entered c.cmp.result c.cmp.ensures) in
+    rw (le-ltb c.args.left c.args.entered (omega (arith, same)), le-ltb c.args.entered c.args.left (omega (arith, same))) c.add_count-in-Equal.ensures

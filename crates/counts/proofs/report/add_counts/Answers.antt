@@ -5,21 +5,22 @@ use Rattle.counts.proofs.report.add_counts.Goals as goal
 
 pub returns-then-report-lt-COUNTS : goal.returns-then-report-lt-COUNTS
 returns-then-report-lt-COUNTS c =
-    let all = room_short _ _ c.if-report-lt-COUNTS.true in
-    record { answer = all.0; report = all.1 }
+    let (answer, report) = room_short _ _ c.if-report-lt-COUNTS.true c.at.ensures in
+    record { answer = answer; report = report }
 
-pub returns-then-over-lt-TESTED : goal.returns-then-over-lt-TESTED
-returns-then-over-lt-TESTED c =
-    let all = room_over _ _ c.if-report-lt-COUNTS.false c.first_over-over.ensures c.if-over-lt-TESTED.true in
-    record { answer = all.0; report = all.1 }
+pub returns-in-Some : goal.returns-in-Some
+returns-in-Some c =
+    let told = rw c.in-Some.is at c.first_over.ensures in
+    let (answer, report) = room_over _ _ c.if-report-lt-COUNTS.false _ told c.at-in-Some.ensures in
+    record { answer = answer; report = report }
 
 pub add_all-requires : goal.add_all-requires
 add_all-requires c =
-    let long = c.if-report-lt-COUNTS.false in
-    (long, c.requires, none_fits _ _ _ long c.first_over-over.ensures c.if-over-lt-TESTED.false)
+    let told = rw c.in_default.is at c.first_over.ensures in
+    (c.if-report-lt-COUNTS.false, c.requires, none_fits _ _ c.if-report-lt-COUNTS.false told)
 
 pub returns : goal.returns
 returns c =
-    let all = room_whole _ _ c.if-report-lt-COUNTS.false c.first_over-over.ensures
-    c.if-over-lt-TESTED.false c.add_all.ensures in
-    record { answer = all.0; report = all.1 }
+    let told = rw c.in_default.is at c.first_over.ensures in
+    let (answer, report) = room_whole _ _ c.if-report-lt-COUNTS.false told c.add_all.ensures in
+    record { answer = answer; report = report }

@@ -1,23 +1,18 @@
 -- `counts::report::first_over` meets its contract.
-use mathlib.Core.Path.{refl, ◌∙◌}
+use mathlib.Core.Path.{ap, sym, ◌∙◌}
 use native.Mathlib.Omega.{arith}
-use Rattle.counts.proofs.Reporting.{over_turn, over_found, over_done}
+use borrow.Author.Rules.{rules}
+use Rattle.std.proofs.Common.{tests}
+use Rattle.std.proofs.lemmas.Iterator.{YieldsList-from_slice, YieldsList-from_zip}
+use Rattle.std.proofs.lemmas.Iterator.Search.{position_from_yields_List}
+use Rattle.counts.specs.Structs.{over_at}
+use Rattle.counts.proofs.Reporting.{over_pair, first_told}
 use Rattle.counts.proofs.report.first_over.Goals as goal
 
-pub loop-i-init : goal.loop-i-init
-loop-i-init c = refl
-
-pub overflow_sub-report : goal.overflow_sub-report
-overflow_sub-report c = omega (arith, c.type_inv.report c.loop-i.i)
-
-pub returns-then-report-i : goal.returns-then-report-i
-returns-then-report-i c = c.loop-i.invariant ∙ over_found _ _ c.requires _ c.loop-i-test.true (omega (arith, c.if-report-i.true))
-
-pub loop-i-smaller : goal.loop-i-smaller
-loop-i-smaller c = omega (arith, c.loop-i-test.true)
-
-pub loop-i-preserved : goal.loop-i-preserved
-loop-i-preserved c = c.loop-i.invariant ∙ over_turn _ _ c.requires _ c.loop-i-test.true (omega (arith, c.if-report-i.false, c.type_inv.report c.loop-i.i))
-
 pub returns : goal.returns
-returns c = c.loop-i.invariant ∙ over_done _ _ c.requires _ c.loop-i-test.false
+returns c =
+    let report = c.args.report.now in
+    let counts = c.args.counts.now in
+    let found = position_from_yields_List over_pair c.position.new.self _ c.position.result c.position.ensures.ran
+    (YieldsList-from_zip {s = c.zip.result} (YieldsList-from_slice report (cc)) (YieldsList-from_slice counts (cc))) (λ x b q k. search (rules, tests)) in
+    first_told report counts c.requires c.told-counts (λ i. omega (arith, c.type_inv.report i)) ∙ ap over_at (sym found)

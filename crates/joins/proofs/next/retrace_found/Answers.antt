@@ -1,33 +1,34 @@
 -- `joins::next::retrace_found` meets its contract.
 use native.Mathlib.Omega.{arith}
+use Rattle.search.specs.Fronts.{best_of}
 use Rattle.metal.proofs.Slices.{beyond_refl}
+use Rattle.joins.specs.Traces.{Told}
 use Rattle.joins.proofs.Records.{none_found, laid_end}
 use Rattle.joins.proofs.next.retrace_found.Goals as goal
 
-pub returns-then-best-ge-NONE : goal.returns-then-best-ge-NONE
-returns-then-best-ge-NONE c =
-    let pre = c.requires in
+pub returns-in_err-cost : goal.returns-in_err-cost
+unfolding Told best_of
+returns-in_err-cost c =
+    let ended = rw c.in_err-cost.was at c.requires.0 in
     record {
-      told = record {
-        found = λ below. absurd (omega (arith, below, c.if-best-ge-NONE.true));
-        none = λ none. none_found _ _ pre.0.good pre.3 pre.2 none;
-      };
-      laid = laid_end pre.2;
+      told = rw c.from_residual.ensures (none_found _ _ c.args.prices.now.fits.good c.requires.2 ended (omega arith));
+      laid = laid_end c.requires.0;
       kept = beyond_refl _ _;
     }
 
-pub retrace-requires : goal.retrace-requires
-retrace-requires c = let pre = c.requires in (pre.0, pre.1, c.if-best-ge-NONE.false, (_, pre.2), pre.3, pre.4)
+pub retrace-start-requires : goal.retrace-start-requires
+unfolding best_of
+retrace-start-requires c =
+    let pre = c.requires in
+    (pre.1 _ c.in_ok-cost.was, (_, rw c.in_ok-cost.was at pre.0), pre.2)
 
 pub returns : goal.returns
+unfolding Told
 returns c =
-    let (last, laid) = laid_end c.requires.2 in
-    let led = c.retrace.ensures in
+    let (last, laid) = laid_end c.requires.0 in
+    let led = c.retrace-start.ensures in
     record {
-      told = record {
-        found = λ below. (_, led.charted, led.start);
-        none = λ none. absurd (omega (arith, none, c.if-best-ge-NONE.false));
-      };
+      told = (_, led.charted, led.start);
       laid = (last, led.laid _ last laid);
       kept = led.kept;
     }

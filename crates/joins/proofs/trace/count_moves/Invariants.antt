@@ -7,11 +7,11 @@ use Rattle.search.specs.Charts.{Charted}
 use Rattle.joins.proofs.Tracing.{Counting}
 use Rattle.joins.proofs.trace.count_moves.Given as goal
 
-abbrev pub invariant-loop-tech : goal.invariant-loop-tech
-invariant-loop-tech l =
-    (bounds : List ℕ) × (best : ℕ) × (Charted (tech_by l.tech) (seen_by l.tech l.seen) l.spots bounds l.work best)
-    × (Counting (tech_by l.tech) (seen_by l.tech l.seen) l.spots bounds l.work best l.start (place_of l.place) l.count)
+abbrev pub invariant-loop-place : goal.invariant-loop-place
+invariant-loop-place l =
+    (bounds : List ℕ) × (best : ℕ) × (Charted (tech_by l.prices.tech) (seen_by l.prices.tech l.seen) l.spots bounds l.work best)
+    × (Counting (tech_by l.prices.tech) (seen_by l.prices.tech l.seen) l.spots bounds l.work best l.start (place_of l.place) l.count)
 
-abbrev pub decreases-loop-tech : goal.decreases-loop-tech
-decreases-loop-tech l =
-    places (tech_by l.tech) - l.count
+abbrev pub decreases-loop-place : goal.decreases-loop-place
+decreases-loop-place l =
+    places (tech_by l.prices.tech) - l.count

@@ -9,13 +9,13 @@ use Rattle.job.specs.declared.grid.Vertex.{Vertex as VertexStruct}
 use Rattle.rules.specs.Tracks.{vertex_by}
 use Rattle.rules.specs.Segments.{Direction, opposite, Place}
 use Rattle.rules.specs.Overheads.{first_of}
-use Rattle.rules.specs.Structs.{OnGrid, track_of, direction_of, heading_of, steps_of, place_of, end_on}
+use Rattle.rules.specs.Structs.{OnGrid, track_of, direction_of, heading_of, steps_of, place_of, leaving_end, starting_end}
 use Rattle.rules.specs.declared.segment.Direction.{Direction as DirectionEnum}
 use Rattle.rules.specs.declared.track.Track.{Track}
 use Rattle.rules.specs.declared.end.End.{End}
 use Rattle.rules.specs.declared.overhead.Extension.{Extension}
 use Rattle.rules.proofs.Fitting.{fits, track_known}
-use Rattle.rules.proofs.Ends.{end_vertex, end_toward, EndRead, end_read}
+use Rattle.rules.proofs.Ends.{EndRead, leaving_read, starting_read}
 use Rattle.metal.specs.Codes.{lay_all, beyond, extended}
 use Rattle.metal.proofs.Laid.{laid_append, laid_length}
 use Rattle.metal.proofs.codes.lay_extension.Goals as goal
@@ -29,17 +29,21 @@ module _ {grid : GridStruct} {v size : ℕ} (pre : (Sized grid) × (v < vertices
       → track ≡ track_of (grid_of grid) (vertex_by (grid_of grid) v)
   track_is isFrom is = is ∙ ap (λ (x : VertexStruct). track_of (grid_of grid) (vertex_of x)) isFrom
 
-  -- an end, as the code has read it
-  end_told : {track : Track} (d : DirectionEnum) (n which : ℕ) {end : End} → track ≡ track_of (grid_of grid) (vertex_by (grid_of grid) v)
-      → end ≡ end_on track v d n which → EndRead (grid_of grid) (direction_of d) n v which track.stride end
-  end_told d n which isTrack is = rw is (end_read pre.1 (track_known on_grid_lem isTrack) d n which)
+  -- the two ends, as the code has read them
+  module _ {track : Track} (d : DirectionEnum) (n : ℕ) {end : End} (known : track ≡ track_of (grid_of grid) (vertex_by (grid_of grid) v)) where
+    leaving_told : end ≡ leaving_end track v d → EndRead (grid_of grid) track.stride v (direction_of d) end
+    leaving_told is = rw is (leaving_read pre.1 (track_known on_grid_lem known) d n)
+
+    starting_told : end ≡ starting_end track v d n
+        → EndRead (grid_of grid) track.stride (first_of (grid_of grid) (direction_of d) n v) (opposite (direction_of d)) end
+    starting_told is = rw is (starting_read pre.1 (track_known on_grid_lem known) d n)
 
 -- the run at the leaving end, then the one at the starting end
 both_laid : (g : Grid) (p : Place) (e : Extension) (net stride : ℕ) (found : List ℕ) {d : Direction} {n : ℕ} {leaving starting : End} {mid last : List ℕ}
-    → d ≡ heading_of p.segment → n ≡ steps_of p.segment → EndRead g d n p.vertex 0 stride leaving → EndRead g d n p.vertex 1 stride starting
+    → d ≡ heading_of p.segment → n ≡ steps_of p.segment → EndRead g stride p.vertex d leaving → EndRead g stride (first_of g d n p.vertex) (opposite d) starting
     → mid ≡ lay_all net (beyond g (direction_of leaving.toward) e.leaving leaving.vertex) found
     → last ≡ lay_all net (beyond g (direction_of starting.toward) e.starting starting.vertex) mid → last ≡ lay_all net (extended g p e) found
-unfolding extended end_vertex end_toward
+unfolding extended
 both_laid g p e net stride found {d} {n} heading steps leaving starting first then =
     let second = rw (starting.toward, starting.vertex) at then in
     let run = beyond g (opposite d) e.starting (first_of g d n p.vertex) in
@@ -54,8 +58,8 @@ track_of-track-requires c =
     let pre = c.requires in
     (pre.0.small, rw c.vertex_by.ensures (fits _ _ (on_grid_lem pre)).layer)
 
-pub end_on-leaving-requires : goal.end_on-leaving-requires
-end_on-leaving-requires c =
+pub leaving-leaving-requires : goal.leaving-leaving-requires
+leaving-leaving-requires c =
     let pre = c.requires in
     (c.args.grid, on_grid_lem pre, track_is pre c.vertex_by.ensures c.track_of-track.ensures)
 
@@ -63,10 +67,10 @@ pub lay_run-requires : goal.lay_run-requires
 lay_run-requires c =
     let pre = c.requires in
     let track = track_is pre c.vertex_by.ensures c.track_of-track.ensures in
-    (c.args.grid, pre.0, (end_told pre _ _ _ track c.end_on-leaving.ensures).on, pre.2)
+    (c.args.grid, pre.0, (leaving_told pre _ 0 track c.leaving-leaving.ensures).on, pre.2)
 
-pub end_on-starting-requires : goal.end_on-starting-requires
-end_on-starting-requires c =
+pub starting-starting-requires : goal.starting-starting-requires
+starting-starting-requires c =
     let pre = c.requires in
     (c.args.grid, on_grid_lem pre, track_is pre c.vertex_by.ensures c.track_of-track.ensures)
 
@@ -74,22 +78,22 @@ pub lay_run-requires-2 : goal.lay_run-requires-2
 lay_run-requires-2 c =
     let pre = c.requires in
     let track = track_is pre c.vertex_by.ensures c.track_of-track.ensures in
-    let first = c.lay_run.ensures _ (end_told pre _ _ _ track c.end_on-leaving.ensures).on in
-    (c.args.grid, pre.0, (end_told pre _ _ _ track c.end_on-starting.ensures).on, rw (first, laid_length) pre.2)
+    let first = c.lay_run.ensures _ (leaving_told pre _ 0 track c.leaving-leaving.ensures).on in
+    (c.args.grid, pre.0, (starting_told pre _ _ track c.starting-starting.ensures).on, rw (first, laid_length) pre.2)
 
 pub shape_of-map : goal.shape_of-map
 shape_of-map c =
     let pre = c.requires in
     let track = track_is pre c.vertex_by.ensures c.track_of-track.ensures in
-    let first = c.lay_run.ensures _ (end_told pre _ _ _ track c.end_on-leaving.ensures).on in
-    let then = c.lay_run-2.ensures _ (end_told pre _ _ _ track c.end_on-starting.ensures).on in
+    let first = c.lay_run.ensures _ (leaving_told pre _ 0 track c.leaving-leaving.ensures).on in
+    let then = c.lay_run-2.ensures _ (starting_told pre _ _ track c.starting-starting.ensures).on in
     rw (then, laid_length, first, laid_length) refl
 
 pub returns : goal.returns
 returns c =
     let pre = c.requires in
     let track = track_is pre c.vertex_by.ensures c.track_of-track.ensures in
-    let leaving = end_told pre _ _ _ track c.end_on-leaving.ensures in
-    let starting = end_told pre _ _ _ track c.end_on-starting.ensures in
+    let leaving = leaving_told pre _ 0 track c.leaving-leaving.ensures in
+    let starting = starting_told pre _ _ track c.starting-starting.ensures in
     both_laid _ (place_of c.args.place) _ _ _ _ c.heading_of-toward.ensures c.steps_of-steps.ensures leaving starting
     (c.lay_run.ensures _ leaving.on) (c.lay_run-2.ensures _ starting.on)

@@ -34,14 +34,14 @@ loop-count-init c g on by room = running_begun on by room
 pub next_toward-last-requires : goal.next_toward-last-requires
 next_toward-last-requires c =
     let (g, sized, on, fits) = c.requires in
-    let so_far = on_end g _ on c.least-count-end.ensures c.loop-count.invariant in
+    let so_far = on_end g _ on c.min-count-end.ensures c.loop-count.invariant in
     let next = running_next so_far c.loop-count-test.true refl in
     (omega (arith, so_far.on_grid, sized.vertices), omega (arith, end_stride g sized.small on), λ e. omega (arith, next.within e, so_far.step))
 
 pub lay-requires : goal.lay-requires
 lay-requires c =
     let (g, sized, on, fits) = c.requires in
-    let so_far = on_end g _ on c.least-count-end.ensures c.loop-count.invariant in
+    let so_far = on_end g _ on c.min-count-end.ensures c.loop-count.invariant in
     let next = running_next so_far c.loop-count-test.true c.next_toward-last.ensures in
     omega (arith, next.on_grid, so_far.size, fits)
 
@@ -52,9 +52,9 @@ loop-count-preserved c g on by room =
 pub shape_of-map : goal.shape_of-map
 shape_of-map c =
     let (g, sized, on, fits) = c.requires in
-    (on_end g _ on c.least-count-end.ensures c.loop-count.invariant).size
+    (on_end g _ on c.min-count-end.ensures c.loop-count.invariant).size
 
 pub returns : goal.returns
 returns c g on =
-    let done = running_done (on_end g _ on c.least-count-end.ensures c.loop-count.invariant) c.loop-count-test.false in
-    rw (← all_beyond g c.args.count on c.least-count-end.ensures) done
+    let done = running_done (on_end g _ on c.min-count-end.ensures c.loop-count.invariant) c.loop-count-test.false in
+    rw (← all_beyond g c.args.count on c.min-count-end.ensures) done

@@ -1,6 +1,6 @@
 -- `metal::codes::lay_run` meets its contract: so many vertices are laid, and laying those that are left
 -- beyond the last gives all.
-use Prim.Native.Nat.{ℕ, ◌-◌, ◌≤◌, ◌<◌}
+use Prim.Native.Nat.{ℕ, ◌≤◌, ◌<◌}
 use mathlib.Core.Path.{◌≡◌}
 use Rattle.job.specs.Grid.{vertices, stride_of}
 use Rattle.job.specs.Structs.{grid_of}
@@ -20,6 +20,3 @@ OnEnd v stride count toward fact =
 abbrev pub invariant-loop-count : goal.invariant-loop-count
 invariant-loop-count l =
     OnEnd l.initial.last l.stride l._count-end l.toward (λ g. Running (grid_of g) (direction_of l.toward) l.net l._count-end l.initial.last l.initial.map l.stride l.last l._count l.map)
-
-abbrev pub decreases-loop-count : goal.decreases-loop-count
-decreases-loop-count l = l._count-end - l._count

@@ -1,7 +1,13 @@
 -- `metal::codes::put_obstacles` meets its contract.
+use Prim.Native.Nat.{◌<◌}
+use mathlib.Core.Path.{sym, ◌∙◌}
+use native.Mathlib.Omega.{arith}
+use lib.Seq.{length-take-le, get_or-take}
+use Rattle.occupants.specs.declared.occupant.Occupant.TheVariants.{Free}
+use Rattle.occupants.proofs.Same.{same_obstacle}
 use Rattle.metal.proofs.Turns.{putting_begun, putting_on, putting_past, putting_done}
 use Rattle.metal.proofs.codes.put_obstacles.Goals as goal
-use Rattle.metal.proofs.codes.put_obstacles.Goals.{then-occupants-v-eq1, else-occupants-v-eq1}
+use Rattle.metal.proofs.codes.put_obstacles.Goals.{then-eq, else-eq}
 
 pub loop-v-init : goal.loop-v-init
 loop-v-init c = putting_begun _ _ _ c.requires.1
@@ -9,14 +15,16 @@ loop-v-init c = putting_begun _ _ _ c.requires.1
 pub loop-v-preserved : goal.loop-v-preserved
 loop-v-preserved c =
     let so_far = c.loop-v.invariant in
-    let more = c.loop-v-test.true in
-    elim c.if-occupants-v-eq1.branch [
-      | then-occupants-v-eq1 w ↦ rw w.map-is (putting_on so_far more w.if-occupants-v-eq1.true)
-      | else-occupants-v-eq1 w ↦ rw w.map-is (putting_past so_far more w.if-occupants-v-eq1.false)
+    let vertices = length-take-le c.args.count c.args.occupants.now (omega (arith, c.requires.0)) in
+    let more : c.loop-v.v < c.args.count = omega (arith, c.loop-v-test.true, vertices) in
+    let same = get_or-take c.args.count c.args.occupants.now c.loop-v.v Free more in
+    elim c.if-eq.branch [
+      | then-eq w ↦ rw w.map-is (putting_on so_far more (rw same at (sym (same_obstacle _) ∙ sym w.if-eq.ensures)))
+      | else-eq w ↦ rw w.map-is (putting_past so_far more (rw same at (sym (same_obstacle _) ∙ sym w.if-eq.ensures)))
     ]
 
 pub shape_of-map : goal.shape_of-map
 shape_of-map c = c.loop-v.invariant.size
 
 pub returns : goal.returns
-returns c = putting_done c.loop-v.invariant c.loop-v-test.false
+returns c = putting_done c.loop-v.invariant (omega (arith, c.loop-v-test.false, length-take-le c.args.count c.args.occupants.now (omega (arith, c.requires.0))))

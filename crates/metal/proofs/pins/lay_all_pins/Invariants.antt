@@ -3,8 +3,5 @@ use Rattle.job.specs.Structs.{grid_of}
 use Rattle.metal.proofs.First.{PinsLaid}
 use Rattle.metal.proofs.pins.lay_all_pins.Given as goal
 
-abbrev pub invariant-loop-left : goal.invariant-loop-left
-invariant-loop-left l = PinsLaid l.s (grid_of l.grid) l.initial.map l.map l.pins l.at l.net l.left
-
-abbrev pub decreases-loop-left : goal.decreases-loop-left
-decreases-loop-left l = l.left
+abbrev pub invariant-loop-before : goal.invariant-loop-before
+invariant-loop-before l = PinsLaid l.s (grid_of l.grid) l.initial.map l.map l.pins l.at l.before l.nets

@@ -1,30 +1,19 @@
 -- `occupants::nets::read_boxes` meets its contract.
 use mathlib.Core.Path.{sym, ◌∙◌}
-use native.Mathlib.Omega.{arith}
+use Rattle.job.proofs.Refusals.{passed_on}
 use Rattle.occupants.proofs.BoxTurns.{boxes_all, boxes_next, boxes_refused, boxes_done}
 use Rattle.occupants.proofs.nets.read_boxes.Goals as goal
 
-pub loop-left-init : goal.loop-left-init
-loop-left-init c = boxes_all _ _ _ _
+pub loop-box-init : goal.loop-box-init
+loop-box-init c = boxes_all _ _ _ _
 
-pub read_box-read-requires : goal.read_box-read-requires
-read_box-read-requires c = omega arith
+pub returns-in_err-at : goal.returns-in_err-at
+returns-in_err-at c =
+    passed_on _ _ c.from_residual.ensures
+    ∙ sym (boxes_refused c.loop-box.invariant c.loop-box-test.true c.in_err-at.ensures)
 
-pub returns-in-Refused : goal.returns-in-Refused
-returns-in-Refused c =
-    sym (boxes_refused c.loop-left.invariant c.loop-left-test.true
-    (sym c.read_box-read.ensures ∙ c.in-Refused.is))
-
-pub overflow_sub-left : goal.overflow_sub-left
-overflow_sub-left c = omega arith
-
-pub loop-left-smaller : goal.loop-left-smaller
-loop-left-smaller c = omega arith
-
-pub loop-left-preserved : goal.loop-left-preserved
-loop-left-preserved c =
-    boxes_next c.loop-left.invariant c.loop-left-test.true
-    (sym c.read_box-read.ensures ∙ c.in-At.is)
+pub loop-box-preserved : goal.loop-box-preserved
+loop-box-preserved c = boxes_next c.loop-box.invariant c.loop-box-test.true c.in_ok-at.ensures
 
 pub returns : goal.returns
-returns c = sym (boxes_done c.loop-left.invariant c.loop-left-test.false)
+returns c = sym (boxes_done c.loop-box.invariant c.loop-box-test.false)

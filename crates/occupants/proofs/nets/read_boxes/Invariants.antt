@@ -4,8 +4,5 @@ use Rattle.job.specs.Structs.{grid_of}
 use Rattle.occupants.proofs.BoxTurns.{BoxesLeft}
 use Rattle.occupants.proofs.nets.read_boxes.Given as goal
 
-abbrev pub invariant-loop-left : goal.invariant-loop-left
-invariant-loop-left l = BoxesLeft (bits_of l.s) (grid_of l.grid) l.count l.from l.left l.at
-
-abbrev pub decreases-loop-left : goal.decreases-loop-left
-decreases-loop-left l = l.left
+abbrev pub invariant-loop-box : goal.invariant-loop-box
+invariant-loop-box l = BoxesLeft (bits_of l.s) (grid_of l.grid) l.count l.from l._box l.at

@@ -1,36 +1,27 @@
 -- `occupants::nets::read_nets` meets its contract.
 use native.Mathlib.Omega.{arith}
+use Rattle.job.proofs.Refusals.{passed_on}
 use Rattle.occupants.proofs.Answers.{told_at, told_refused}
 use Rattle.occupants.proofs.NetTurns.{nets_all, nets_next, nets_refused, nets_done}
 use Rattle.occupants.proofs.nets.read_nets.Goals as goal
 
-pub loop-left-init : goal.loop-left-init
-loop-left-init c = nets_all _ _ _ _ _
+pub loop-net-init : goal.loop-net-init
+loop-net-init c = nets_all _ _ _ _ _
 
-pub read_net-read-requires : goal.read_net-read-requires
-read_net-read-requires c = (c.requires.0, omega arith)
+pub read_net-requires : goal.read_net-requires
+read_net-requires c = (c.requires.0, omega (arith, c.loop-net.invariant.ends))
 
-pub returns-in-Refused : goal.returns-in-Refused
-returns-in-Refused c =
-    let read = c.read_net-read.ensures in
-    let all = told_refused
-    (nets_refused c.loop-left.invariant c.loop-left-test.true
-    read.answer read.occupants c.in-Refused.is) in
-    record { answer = all.0; occupants = all.1 }
+pub returns-in_err-at : goal.returns-in_err-at
+returns-in_err-at c =
+    let read = c.in_err-at.ensures in
+    told_refused (nets_refused c.loop-net.invariant c.loop-net-test.true read.answer read.occupants)
+    (passed_on _ _ c.from_residual.ensures)
 
-pub overflow_sub-left : goal.overflow_sub-left
-overflow_sub-left c = omega arith
-
-pub loop-left-smaller : goal.loop-left-smaller
-loop-left-smaller c = omega arith
-
-pub loop-left-preserved : goal.loop-left-preserved
-loop-left-preserved c =
-    let read = c.read_net-read.ensures in
-    nets_next c.loop-left.invariant c.loop-left-test.true
-    read.answer read.occupants c.in-At.is
+pub loop-net-preserved : goal.loop-net-preserved
+loop-net-preserved c =
+    let read = c.in_ok-at.ensures in
+    nets_next c.loop-net.invariant c.loop-net-test.true read.answer read.occupants
 
 pub returns : goal.returns
 returns c =
-    let all = told_at (nets_done c.loop-left.invariant c.loop-left-test.false) in
-    record { answer = all.0; occupants = all.1 }
+    told_at (nets_done c.loop-net.invariant c.loop-net-test.false)

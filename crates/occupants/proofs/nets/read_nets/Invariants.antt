@@ -3,8 +3,5 @@ use Rattle.job.specs.Structs.{grid_of}
 use Rattle.occupants.proofs.NetTurns.{NetsLeft}
 use Rattle.occupants.proofs.nets.read_nets.Given as goal
 
-abbrev pub invariant-loop-left : goal.invariant-loop-left
-invariant-loop-left l = NetsLeft l.s (grid_of l.grid) l.count l.from l.initial.occupants l.left l.at l.occupants
-
-abbrev pub decreases-loop-left : goal.decreases-loop-left
-decreases-loop-left l = l.left
+abbrev pub invariant-loop-net : goal.invariant-loop-net
+invariant-loop-net l = NetsLeft l.s (grid_of l.grid) l.count l.from l.initial.occupants l._net l.at l.occupants

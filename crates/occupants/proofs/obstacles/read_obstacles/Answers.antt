@@ -1,50 +1,33 @@
 -- `occupants::obstacles::read_obstacles` meets its contract.
-use mathlib.Core.Path.{refl, sym, ap, ◌∙◌}
+use Prim.Native.Nat.{◌-◌}
+use mathlib.Core.Path.{◌≡◌, refl, ◌∙◌}
 use native.Mathlib.Omega.{arith}
-use Rattle.occupants.specs.Occupants.{answer_of, occupants_of}
+use Rattle.job.proofs.Refusals.{passed_on}
+use Rattle.occupants.proofs.Answers.{told_at, told_refused}
 use Rattle.occupants.proofs.CoverTurns.{read_fits, obstacles_turn, obstacles_stop, obstacles_done}
 use Rattle.occupants.proofs.obstacles.read_obstacles.Goals as goal
 
-pub loop-left-init : goal.loop-left-init
-loop-left-init c = (refl, refl)
+pub loop-obstacle-init : goal.loop-obstacle-init
+loop-obstacle-init c =
+    let all : c.args.count - 0 ≡ c.args.count = omega arith in
+    rw all (omega arith, refl)
+
+pub returns-in_err-obstacle : goal.returns-in_err-obstacle
+returns-in_err-obstacle c =
+    let stop = obstacles_stop _ _ _ _ _ _ c.loop-obstacle-test.true c.in_err-obstacle.ensures in
+    told_refused (c.loop-obstacle.invariant.1 ∙ stop) (passed_on _ _ c.from_residual.ensures)
 
 pub cover_obstacle-requires : goal.cover_obstacle-requires
 cover_obstacle-requires c =
-    let read = sym c.read_obstacle-read.ensures ∙ c.in-Good.is in
-    let fits = read_fits _ _ _ read in
+    let fits = read_fits _ _ _ c.in_ok-obstacle.ensures in
     (c.requires.0, fits.0, fits.1)
 
-pub returns-in-Refused : goal.returns-in-Refused
-unfolding answer_of occupants_of
-returns-in-Refused c =
-    let read = sym c.read_obstacle-read.ensures ∙ c.in-Refused.is in
-    let e = c.loop-left.invariant.1 ∙ obstacles_stop _ _ _ _ _ c.loop-left-test.true read in
-    record {
-      answer = sym (ap answer_of e);
-      occupants = sym (ap occupants_of e);
-    }
-
-pub overflow_add-at : goal.overflow_add-at
-overflow_add-at c = omega arith
-
-pub overflow_sub-left : goal.overflow_sub-left
-overflow_sub-left c = omega arith
-
-pub loop-left-smaller : goal.loop-left-smaller
-loop-left-smaller c = omega arith
-
-pub loop-left-preserved : goal.loop-left-preserved
-loop-left-preserved c =
-    let l = c.loop-left in
-    let read = sym c.read_obstacle-read.ensures ∙ c.in-Good.is in
-    let turn = obstacles_turn _ _ _ _ l.occupants c.loop-left-test.true read in
+pub loop-obstacle-preserved : goal.loop-obstacle-preserved
+loop-obstacle-preserved c =
+    let l = c.loop-obstacle in
+    let turn = obstacles_turn _ _ _ _ _ l.occupants c.loop-obstacle-test.true c.in_ok-obstacle.ensures in
     (omega arith, l.invariant.1 ∙ rw c.cover_obstacle.ensures turn)
 
 pub returns : goal.returns
-unfolding answer_of occupants_of
 returns c =
-    let e = c.loop-left.invariant.1 ∙ obstacles_done _ _ _ _ _ c.loop-left-test.false in
-    record {
-      answer = sym (ap answer_of e);
-      occupants = sym (ap occupants_of e);
-    }
+    told_at (c.loop-obstacle.invariant.1 ∙ obstacles_done _ _ _ _ _ _ c.loop-obstacle-test.false)

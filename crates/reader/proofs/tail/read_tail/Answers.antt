@@ -11,7 +11,7 @@ use lib.Seq.{take_all}
 use Rattle.bits.specs.Bits.{bits_of, field, number}
 use Rattle.bits.specs.declared.FieldRead.{FieldRead}
 use Rattle.bits.proofs.Laws.{length-bits_of}
-use Rattle.job.specs.Reading.{read_tail, rule, refused}
+use Rattle.job.specs.Reading.{read_tail, ◌>>◌, rule, refused}
 use Rattle.occupants.specs.Structs.{many_reached}
 use Rattle.reader.proofs.tail.read_tail.Goals as goal
 
@@ -31,24 +31,24 @@ short bytes at h =
     )
 
 pub returns-then-end-at : goal.returns-then-end-at
-unfolding rule many_reached field number
+unfolding rule many_reached ◌>>◌ field number
 returns-then-end-at c =
     let a = c.args in
     let none : length a.s.now * 8 - a.at ≡ 0 = omega arith in
     rw (short a.s.now a.at (omega arith), none)
 
 pub returns-then-left-ge-BYTE : goal.returns-then-left-ge-BYTE
-unfolding many_reached
-returns-then-left-ge-BYTE c = rw (long _ _ c.if-left-ge-BYTE.true)
+unfolding many_reached ◌>>◌
+returns-then-left-ge-BYTE c = rw (c.at.ensures, long _ _ c.if-left-ge-BYTE.true)
 
 pub returns-then-tail-ne0 : goal.returns-then-tail-ne0
-unfolding rule many_reached
+unfolding rule many_reached ◌>>◌
 returns-then-tail-ne0 c =
     let value = ap (λ (t : FieldRead). t.value) c.field-tail.ensures in
-    rw (short _ _ c.if-left-ge-BYTE.false, ← value, ne_eqb _ _ c.if-tail-ne0.true)
+    rw (c.at-then-tail-ne0.ensures, short _ _ c.if-left-ge-BYTE.false, ← value, ne_eqb _ _ c.if-tail-ne0.true)
 
 pub returns : goal.returns
-unfolding rule many_reached
+unfolding rule many_reached ◌>>◌
 returns c =
     let value = ap (λ (t : FieldRead). t.value) c.field-tail.ensures in
     rw (short _ _ c.if-left-ge-BYTE.false, ← value, eq-eqb _ _ c.if-tail-ne0.false)

@@ -6,10 +6,7 @@ use Rattle.rules.specs.Seen.{view_by}
 use Rattle.replay.proofs.Walking.{Walking}
 use Rattle.replay.proofs.moves.read_moves.Given as goal
 
-abbrev pub invariant-loop-left : goal.invariant-loop-left
-invariant-loop-left l =
-    Walking l.tech (view_by (grid_of l.tech.grid) l.seen) (bits_of l.plan) l.net l.count l.from l.start (record { spots = l.initial.spots; codes = l.initial.map }) l.initial.counts l.spots l.map l.counts
-    l.walk l.layer l.at l.left
-
-abbrev pub decreases-loop-left : goal.decreases-loop-left
-decreases-loop-left l = l.left
+abbrev pub invariant-loop-after : goal.invariant-loop-after
+invariant-loop-after l =
+    Walking l.prices.tech (view_by (grid_of l.prices.tech.grid) l.seen) (bits_of l.plan) l.net l.count l.from l.start (record { spots = l.initial.spots; codes = l.initial.map }) l.initial.counts l.spots l.map l.counts
+    l.walk l.layer l.at l.after

@@ -8,10 +8,7 @@ use Rattle.walker.specs.Structs.{totals_of}
 use Rattle.replay.proofs.Recording.{Recording}
 use Rattle.replay.proofs.net.read_records.Given as goal
 
-abbrev pub invariant-loop-left : goal.invariant-loop-left
-invariant-loop-left l =
-    Recording l.tech (view_by (grid_of l.tech.grid) l.seen) (bits_of l.plan) l.hand.number (take l.hand.pins l.pins) l.hand.pins l.from (totals_of l.initial.totals)
-    l.initial.counts (record { spots = l.initial.spots; codes = l.initial.map }) l.spots l.map l.counts l.totals l.at l.left
-
-abbrev pub decreases-loop-left : goal.decreases-loop-left
-decreases-loop-left l = l.left
+abbrev pub invariant-loop-record : goal.invariant-loop-record
+invariant-loop-record l =
+    Recording l.prices.tech (view_by (grid_of l.prices.tech.grid) l.seen) (bits_of l.plan) l.hand.number (take l.hand.pins l.pins) l.hand.pins l.from (totals_of l.initial.totals)
+    l.initial.counts (record { spots = l.initial.spots; codes = l.initial.map }) l.spots l.map l.counts l.totals l.at l._record

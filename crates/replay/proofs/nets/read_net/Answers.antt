@@ -1,12 +1,6 @@
 -- `replay::nets::read_net` meets its contract.
 use Rattle.replay.proofs.nets.read_net.Goals as goal
 
-pub begin_tree-requires : goal.begin_tree-requires
-begin_tree-requires c = c.requires.3
-
-pub read_records-requires : goal.read_records-requires
-read_records-requires c = c.requires
-
 pub returns : goal.returns
 returns c =
     let begun = c.begin_tree.ensures in

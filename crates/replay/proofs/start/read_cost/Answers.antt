@@ -4,31 +4,24 @@ use native.Mathlib.Omega.{arith}
 use borrow.Author.Tests.{eq-eqb, ne_eqb}
 use Rattle.bits.specs.declared.FieldRead.{FieldRead}
 use Rattle.job.proofs.Fields.{is_whole, is_cut, all_left, room}
-use Rattle.replay.specs.Structs.{cost_read}
 use Rattle.replay.proofs.Parts.{cost_cut, cost_other, cost_same}
 use Rattle.replay.proofs.start.read_cost.Goals as goal
 
-pub whole-requires : goal.whole-requires
-whole-requires c = omega (arith, c.requires)
-
 pub returns-then-not-whole : goal.returns-then-not-whole
-unfolding cost_read
-returns-then-not-whole c = rw (cost_cut _ _ _ (is_cut 40 _ _ c.whole.ensures c.if-not-whole.true-raw)) refl
+returns-then-not-whole c = rw (c.at.ensures, cost_cut _ _ _ (is_cut 40 _ _ c.whole.ensures c.if-not-whole.true)) refl
 
 pub field-held-requires : goal.field-held-requires
-field-held-requires c = room tt (all_left 40 (is_whole 40 _ _ c.whole.ensures c.if-not-whole.false-raw) (omega (arith, c.requires)))
+field-held-requires c = room tt (all_left 40 (is_whole 40 _ _ c.whole.ensures c.if-not-whole.false) (omega (arith, c.requires)))
 
 pub returns-then-held-cost : goal.returns-then-held-cost
-unfolding cost_read
 returns-then-held-cost c =
-    rw (cost_other _ _ _ (is_whole 40 _ _ c.whole.ensures c.if-not-whole.false-raw)
-    (ne_eqb _ _ (λ e. c.if-held-cost.true (ap (λ (t : FieldRead). t.value) c.field-held.ensures ∙ e)))) refl
-
-pub overflow_add-result : goal.overflow_add-result
-overflow_add-result c = omega (arith, c.requires)
+    rw (
+      c.at-then-held-cost.ensures,
+      cost_other _ _ _ (is_whole 40 _ _ c.whole.ensures c.if-not-whole.false)
+          (ne_eqb _ _ (λ e. c.if-held-cost.true (ap (λ (t : FieldRead). t.value) c.field-held.ensures ∙ e))),
+    ) refl
 
 pub returns : goal.returns
-unfolding cost_read
 returns c =
-    rw (cost_same _ _ _ (is_whole 40 _ _ c.whole.ensures c.if-not-whole.false-raw)
+    rw (cost_same _ _ _ (is_whole 40 _ _ c.whole.ensures c.if-not-whole.false)
     (eq-eqb _ _ (sym (ap (λ (t : FieldRead). t.value) c.field-held.ensures) ∙ c.if-held-cost.false))) refl

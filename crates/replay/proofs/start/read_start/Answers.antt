@@ -4,28 +4,19 @@ use native.Mathlib.Omega.{arith}
 use Rattle.bits.specs.declared.FieldRead.{FieldRead}
 use Rattle.job.proofs.Fields.{is_whole, is_cut, all_left}
 use Rattle.job.proofs.Sizes.{inside_fields}
-use Rattle.replay.specs.Structs.{start_read}
 use Rattle.replay.proofs.Parts.{inside_below, vertex_read, vertex_whole, start_cut, start_outside, start_off, start_none, start_whole}
 use Rattle.replay.proofs.start.read_start.Goals as goal
 
-pub whole-requires : goal.whole-requires
-whole-requires c = omega (arith, c.requires.1)
-
 pub returns-then-not-whole : goal.returns-then-not-whole
-unfolding start_read
-returns-then-not-whole c = rw (start_cut _ _ _ _ (is_cut 39 _ _ c.whole.ensures c.if-not-whole.true-raw)) refl
-
-pub vertex_group-requires : goal.vertex_group-requires
-vertex_group-requires c = omega (arith, c.requires.1)
+returns-then-not-whole c = rw (c.at.ensures, start_cut _ _ _ _ (is_cut 39 _ _ c.whole.ensures c.if-not-whole.true)) refl
 
 pub returns-in_default : goal.returns-in_default
-returns-in_default c = absurd (vertex_whole _ _ (is_whole 39 _ _ c.whole.ensures c.if-not-whole.false-raw) c.vertex_group.ensures c.in_default.is)
+returns-in_default c = absurd (vertex_whole _ _ (is_whole 39 _ _ c.whole.ensures c.if-not-whole.false) c.vertex_group.ensures c.in_default.is)
 
 pub returns-then-not-inside : goal.returns-then-not-inside
-unfolding start_read
 returns-then-not-inside c =
-    let w = is_whole 39 _ _ c.whole.ensures c.if-not-whole.false-raw in
-    rw (start_outside _ _ _ _ w (vertex_read _ _ w c.vertex_group.ensures c.in-Whole.is) (sym c.inside.ensures ∙ c.if-not-inside.true)) refl
+    let w = is_whole 39 _ _ c.whole.ensures c.if-not-whole.false in
+    rw (c.at-then-not-inside.ensures, start_outside _ _ _ _ w (vertex_read _ _ w c.vertex_group.ensures c.in-Some.is) (sym c.inside.ensures ∙ c.if-not-inside.true)) refl
 
 pub number-number-requires : goal.number-number-requires
 number-number-requires c =
@@ -37,30 +28,21 @@ bounds-spots-number c =
     omega (arith, inside_below _ _ (sym c.inside.ensures ∙ c.if-not-inside.false), c.number-number.ensures, c.requires.0.vertices)
 
 pub returns-then-spots-number : goal.returns-then-spots-number
-unfolding start_read
 returns-then-spots-number c =
-    let w = is_whole 39 _ _ c.whole.ensures c.if-not-whole.false-raw in
-    rw (start_off _ _ _ _ w (vertex_read _ _ w c.vertex_group.ensures c.in-Whole.is) (sym c.inside.ensures ∙ c.if-not-inside.false) c.number-number.ensures c.if-spots-number.true) refl
-
-pub overflow_add-count : goal.overflow_add-count
-overflow_add-count c = omega (arith, c.requires.1)
+    let w = is_whole 39 _ _ c.whole.ensures c.if-not-whole.false in
+    rw (c.at-then-spots-number.ensures, start_off _ _ _ _ w (vertex_read _ _ w c.vertex_group.ensures c.in-Some.is) (sym c.inside.ensures ∙ c.if-not-inside.false) c.number-number.ensures c.if-spots-number.true) refl
 
 pub field-moves-requires : goal.field-moves-requires
 field-moves-requires c =
-    let left = all_left 39 (is_whole 39 _ _ c.whole.ensures c.if-not-whole.false-raw) (omega (arith, c.requires.1)) in
+    let left = all_left 39 (is_whole 39 _ _ c.whole.ensures c.if-not-whole.false) (omega (arith, c.requires.1)) in
     record { fitting = record { narrow = omega arith; below = omega (arith, left.below) }; inside = omega (arith, left.inside) }
 
-pub overflow_add-result : goal.overflow_add-result
-overflow_add-result c = omega (arith, c.requires.1)
-
 pub returns-then-moves-lt1 : goal.returns-then-moves-lt1
-unfolding start_read
 returns-then-moves-lt1 c =
-    let w = is_whole 39 _ _ c.whole.ensures c.if-not-whole.false-raw in
-    rw (start_none _ _ _ _ w (vertex_read _ _ w c.vertex_group.ensures c.in-Whole.is) (sym c.inside.ensures ∙ c.if-not-inside.false) c.number-number.ensures c.if-spots-number.false (ap (λ (t : FieldRead). t.value) c.field-moves.ensures) c.if-moves-lt1.true) refl
+    let w = is_whole 39 _ _ c.whole.ensures c.if-not-whole.false in
+    rw (c.at-then-moves-lt1.ensures, start_none _ _ _ _ w (vertex_read _ _ w c.vertex_group.ensures c.in-Some.is) (sym c.inside.ensures ∙ c.if-not-inside.false) c.number-number.ensures c.if-spots-number.false (ap (λ (t : FieldRead). t.value) c.field-moves.ensures) c.if-moves-lt1.true) refl
 
 pub returns : goal.returns
-unfolding start_read
 returns c =
-    let w = is_whole 39 _ _ c.whole.ensures c.if-not-whole.false-raw in
-    rw (start_whole _ _ _ _ w (vertex_read _ _ w c.vertex_group.ensures c.in-Whole.is) (sym c.inside.ensures ∙ c.if-not-inside.false) c.number-number.ensures c.if-spots-number.false (ap (λ (t : FieldRead). t.value) c.field-moves.ensures) c.if-moves-lt1.false) refl
+    let w = is_whole 39 _ _ c.whole.ensures c.if-not-whole.false in
+    rw (start_whole _ _ _ _ w (vertex_read _ _ w c.vertex_group.ensures c.in-Some.is) (sym c.inside.ensures ∙ c.if-not-inside.false) c.number-number.ensures c.if-spots-number.false (ap (λ (t : FieldRead). t.value) c.field-moves.ensures) c.if-moves-lt1.false) refl

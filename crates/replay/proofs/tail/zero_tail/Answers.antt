@@ -5,20 +5,11 @@ use Rattle.bits.specs.declared.FieldRead.{FieldRead}
 use Rattle.replay.proofs.Tails.{tail_long, tail_none, tail_left}
 use Rattle.replay.proofs.tail.zero_tail.Goals as goal
 
-pub overflow_add-at : goal.overflow_add-at
-overflow_add-at c = omega (arith, c.requires)
-
 pub returns-then-at-bytes : goal.returns-then-at-bytes
 returns-then-at-bytes c = tail_long _ _ c.if-at-bytes.true
 
-pub overflow_mul-end : goal.overflow_mul-end
-overflow_mul-end c = omega (arith, c.requires, c.if-at-bytes.false)
-
 pub returns-then-end-at : goal.returns-then-end-at
 returns-then-end-at c = tail_none _ _ c.if-end-at.true
-
-pub overflow_sub-end : goal.overflow_sub-end
-overflow_sub-end c = omega (arith, c.if-end-at.false)
 
 pub field-tail-requires : goal.field-tail-requires
 field-tail-requires c =

@@ -2,16 +2,10 @@
 use Rattle.replay.specs.Structs.{finished_map}
 use Rattle.replay.proofs.whole.finish_map.Goals as goal
 
-pub put_obstacles-requires : goal.put_obstacles-requires
-put_obstacles-requires c = c.requires
-
-pub zero_codes-requires : goal.zero_codes-requires
-zero_codes-requires c = c.requires.1
-
-pub returns-in-Good : goal.returns-in-Good
+pub returns-in-Ok : goal.returns-in-Ok
 unfolding finished_map
-returns-in-Good c = rw c.in-Good.is c.put_obstacles.ensures
+returns-in-Ok c = rw c.in-Ok.is c.put_obstacles.ensures
 
-pub returns-in-Refused : goal.returns-in-Refused
+pub returns-in-Err : goal.returns-in-Err
 unfolding finished_map
-returns-in-Refused c = rw c.in-Refused.is c.zero_codes.ensures
+returns-in-Err c = rw c.in-Err.is c.zero_codes.ensures

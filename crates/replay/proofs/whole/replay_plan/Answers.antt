@@ -3,9 +3,6 @@ use Rattle.walker.proofs.Wholes.{plan_room, pins_held, nets_held, after_long, co
 use Rattle.replay.proofs.Wholes.{plan_answer, plan_map, plan_counted, count_finished}
 use Rattle.replay.proofs.whole.replay_plan.Goals as goal
 
-pub vertices-count-requires : goal.vertices-count-requires
-vertices-count-requires c = c.requires.0.fits.sized.small
-
 pub zero_codes-requires : goal.zero_codes-requires
 zero_codes-requires c = rw c.vertices-count.ensures (plan_room _ _ _ _ _ _ c.requires.0)
 

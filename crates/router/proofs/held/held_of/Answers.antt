@@ -2,14 +2,11 @@
 use mathlib.Core.Path.{refl}
 use native.Mathlib.Omega.{arith}
 use Rattle.router.specs.Held.{held_of}
-use Rattle.router.proofs.Holding.{holds-sized, holds-eight, holds_numbers, holds_obstacles}
+use Rattle.router.proofs.Holding.{holds-sized, holds_numbers, holds_obstacles}
 use Rattle.router.proofs.held.held_of.Goals as goal
 
 pub vertices-vertices-requires : goal.vertices-vertices-requires
 vertices-vertices-requires c = (holds-sized _ _ c.requires).small
-
-pub largest_least-largest-requires : goal.largest_least-largest-requires
-largest_least-largest-requires c = holds-eight _ _ c.requires
 
 pub overflow_mul-result : goal.overflow_mul-result
 overflow_mul-result c = omega (arith, holds_numbers _ _ c.requires c.vertices-vertices.ensures c.largest_least-largest.ensures)

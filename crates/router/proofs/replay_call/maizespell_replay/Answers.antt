@@ -10,4 +10,4 @@ replay_counted-requires c = zeros_fit 48
 pub returns : goal.returns
 returns c =
     let all = replay_parts _ _ _ _ (bytes_below _ c.type_inv.plan) c.replay_counted.ensures.outcome in
-    record { result = all.0; map = all.1.0; work = all.1.1.0; accepts = all.1.1.1 }
+    rw c.from.ensures (record { result = all.0; map = all.1.0; work = all.1.1.0; accepts = all.1.1.1 })

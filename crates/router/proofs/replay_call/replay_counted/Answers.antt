@@ -1,25 +1,43 @@
--- `router::replay_call::replay_counted` meets its contract: the job is refused, or it is replayed.
-use Rattle.reader.proofs.Outcome.{read_at, read_refused, zeros_bare}
-use Rattle.router.proofs.Holding.{head_holds, job_held, refused_room}
-use Rattle.router.proofs.Replays.{replay_refused}
+-- `router::replay_call::replay_counted` meets its contract: the job is refused, a slice is short, or the plan is
+-- read.
+use native.Mathlib.Omega.{arith}
+use mathlib.Core.Path.{refl}
+use Rattle.reader.proofs.Outcome.{free_bare}
+use Rattle.replay.proofs.Parts.{passed_same}
+use Rattle.router.proofs.Holding.{refused_room, room_short, room_enough, plan_asked}
+use Rattle.router.proofs.Promises.{room_read}
+use Rattle.router.proofs.Replays.{replay_refused, replay_read_lem, replay_told}
 use Rattle.router.proofs.Reports.{counts_none}
 use Rattle.router.proofs.replay_call.replay_counted.Goals as goal
 
-pub read_job-read-requires : goal.read_job-read-requires
-read_job-read-requires c = zeros_bare
+pub hold_job-requires : goal.hold_job-requires
+hold_job-requires c = free_bare
 
-pub held_of-held-requires : goal.held_of-held-requires
-held_of-held-requires c = head_holds (read_at _ _ c.read_job-read.ensures.read _ c.in-At.is)
+pub returns-in_err-held : goal.returns-in_err-held
+returns-in_err-held c =
+    let none = refused_room _ _ _ c.in_err-held.ensures in
+    rw (passed_same c.from_residual.ensures) (record { outcome = replay_refused _ _ _ _ none; counts = counts_none _ _ _ _ _ _ none })
 
-pub replay_job-requires : goal.replay_job-requires
-replay_job-requires c =
-    let read = c.read_job-read.ensures in
-    (job_held (read_at _ _ read.read _ c.in-At.is) read.occupants c.held_of-held.ensures, c.requires)
+pub returns-in_err-room_for : goal.returns-in_err-room_for
+returns-in_err-room_for c =
+    let short = room_short c.in_ok-held.ensures _ _ c.in_err-room_for.ensures refl in
+    rw (passed_same c.from_residual-in_err-room_for.ensures) (record { outcome = replay_refused _ _ _ _ short; counts = counts_none _ _ _ _ _ _ short })
 
-pub returns-in-Refused : goal.returns-in-Refused
-returns-in-Refused c =
-    let none = refused_room _ _ _ (read_refused _ _ c.read_job-read.ensures.read _ _ c.in-Refused.is) in
-    record { outcome = replay_refused _ _ _ _ none c.refused_replay.ensures; counts = counts_none _ _ _ _ _ _ none }
+pub zero_words-requires : goal.zero_words-requires
+zero_words-requires c =
+    let h = c.in_ok-held.ensures in
+    omega (arith, h.work, (room_enough h _ _ c.in_ok-room_for.ensures refl).need)
 
-pub returns-in-At : goal.returns-in-At
-returns-in-At c = c.replay_job.ensures
+pub replay_plan-requires : goal.replay_plan-requires
+replay_plan-requires c =
+    let h = c.in_ok-held.ensures in
+    (plan_asked h (room_enough h _ _ c.in_ok-room_for.ensures refl).vertices, c.requires)
+
+pub returns : goal.returns
+returns c =
+    let h = c.in_ok-held.ensures in
+    let enough = room_enough h _ _ c.in_ok-room_for.ensures refl in
+    let read = c.replay_plan.ensures in record {
+      outcome = replay_read_lem _ _ _ _ enough.read (replay_told _ _ (read.answer h.job h.read)) (read.map h.job h.read) (rw h.work at c.zero_words.ensures);
+      counts = λ j room. read.counts j (room_read _ _ _ j room);
+    }

@@ -3,20 +3,15 @@ use Rattle.job.specs.Structs.{grid_of}
 use Rattle.tree.proofs.Spots.{begun_among}
 use Rattle.routing.proofs.net.route_net.Goals as goal
 
-pub begin_tree-requires : goal.begin_tree-requires
-begin_tree-requires c = c.requires.4
-
 pub route_records-requires : goal.route_records-requires
 route_records-requires c =
     let pre = c.requires in
-    let known = begun_among (grid_of c.args.tech.grid) _ pre.0.sized.vertices pre.4.on_grid in (
+    let known = begun_among (grid_of c.args.prices.now.tech.grid) _ c.args.prices.now.fits.sized.vertices pre.2.on_grid in (
       pre.0,
       pre.1,
-      pre.2,
+      record { there = pre.2; on_grid = pre.5; known = λ v h is. known v h (rw c.begin_tree.ensures at is) },
       pre.3,
-      record { there = pre.4; on_grid = pre.7; known = λ v h is. known v h (rw c.begin_tree.ensures at is) },
-      pre.5,
-      pre.6,
+      pre.4,
     )
 
 pub returns : goal.returns

@@ -1,6 +1,6 @@
 -- `routing::net::route_records` meets its contract.
-use Prim.Native.Nat.{ℕ}
-use mathlib.Core.Path.{refl, sym, ap, ◌∙◌}
+use Prim.Native.Nat.{ℕ, ◌+◌, ◌-◌}
+use mathlib.Core.Path.{◌≡◌, refl, sym, ap, ◌∙◌}
 use mathlib.Core.List.{List}
 use native.Mathlib.Omega.{arith}
 use lib.ListN.{length}
@@ -10,21 +10,16 @@ use Rattle.routing.proofs.Records.{recording_begun, recording_joined, recording_
 use Rattle.routing.proofs.OneRecord.{recording_none, recording_on}
 use Rattle.routing.proofs.net.route_records.Goals as goal
 
-pub loop-left-init : goal.loop-left-init
-loop-left-init c =
+pub loop-turn-init : goal.loop-turn-init
+loop-turn-init c =
     let pre = c.requires in
-    (recording_begun _ _ _ _ _ _ _ _ _ pre.6, refl, pre.4)
-
-pub some_unjoined-requires : goal.some_unjoined-requires
-some_unjoined-requires c = c.requires.4.there
-
-pub with_net-requires : goal.with_net-requires
-with_net-requires c = omega (arith, c.loop-left.invariant.0.joined, c.requires.5)
+    let all : c.args.hand.pins - 0 ≡ c.args.hand.pins = omega arith in
+    (rw all (recording_begun _ _ _ _ _ _ _ _ _ pre.4), refl, pre.2)
 
 pub returns-then-not-some_unjoined : goal.returns-then-not-some_unjoined
 returns-then-not-some_unjoined c =
-    let inv = c.loop-left.invariant in
-    let (answer, fits) = recording_joined _ _ _ _ _ _ _ _ _ inv.0 c.requires.4.there.few (sym c.some_unjoined.ensures ∙ c.if-not-some_unjoined.true) c.with_net.ensures in
+    let inv = c.loop-turn.invariant in
+    let (answer, fits) = recording_joined _ _ _ _ _ _ _ _ _ inv.0 c.requires.2.there.few (sym c.some_unjoined.ensures ∙ c.if-not-some_unjoined.true) c.with_net.ensures in
     record {
       answer = answer;
       fits = fits;
@@ -33,32 +28,25 @@ returns-then-not-some_unjoined c =
 
 pub next_join-joined-requires : goal.next_join-joined-requires
 next_join-joined-requires c =
-    let inv = c.loop-left.invariant in
+    let inv = c.loop-turn.invariant in
     let pre = c.requires in (
-      pre.0,
-      pre.1,
-      rw inv.1 pre.2,
-      omega (arith, pre.3, inv.0.size),
-      omega (arith, inv.0.bounded.reach, pre.5, pre.4.there.few),
+      rw inv.1 pre.0,
+      omega (arith, pre.1, inv.0.size),
+      omega (arith, inv.0.bounded.reach, pre.3, pre.2.there.few),
       inv.2,
     )
 
-pub overflow_add-result : goal.overflow_add-result
-overflow_add-result c =
-    let pre = c.requires in
-    omega (arith, c.loop-left.invariant.0.bounded.reach, pre.5, pre.4.there.few)
+pub shape_of-work-in_default : goal.shape_of-work-in_default
+shape_of-work-in_default c = ap (λ (l : List ℕ). length l) (c.next_join-joined.ensures.work ∙ c.loop-turn.invariant.1)
 
-pub shape_of-work-in-None : goal.shape_of-work-in-None
-shape_of-work-in-None c = ap (λ (l : List ℕ). length l) (c.next_join-joined.ensures.work ∙ c.loop-left.invariant.1)
-
-pub returns-in-None : goal.returns-in-None
+pub returns-in_default : goal.returns-in_default
 unfolding tech_by
-returns-in-None c =
-    let inv = c.loop-left.invariant in
+returns-in_default c =
+    let inv = c.loop-turn.invariant in
     let some = sym c.some_unjoined.ensures ∙ c.if-not-some_unjoined.false in
     let record { written = written; fits = fits; fewer = fewer; work = work } = c.next_join-joined.ensures in
-    let (routed, small) = recording_none _ _ _ _ _ _ _ _ _ inv.0 c.requires.4.there.few c.loop-left-test.true some _ _ _ _
-    written c.in-None.is in
+    let (routed, small) = recording_none _ _ _ _ _ _ _ _ _ inv.0 c.requires.2.there.few (omega arith) some _ _ _ _
+    written c.in_default.is in
     record {
       answer = routed;
       fits = small;
@@ -68,40 +56,32 @@ returns-in-None c =
 pub with_join-totals-requires : goal.with_join-totals-requires
 unfolding JoinedFits
 with_join-totals-requires c =
-    let fit = rw c.in-Join.is at c.next_join-joined.ensures.fits in
-    let b = c.loop-left.invariant.0.bounded in
+    let fit = rw c.in-Some.is at c.next_join-joined.ensures.fits in
+    let b = c.loop-turn.invariant.0.bounded in
     let pre = c.requires in (
-      omega (arith, b.cost, fit.0.cost, pre.5, pre.4.there.few),
-      omega (arith, b.added, fit.0.added, pre.5, pre.4.there.few),
-      omega (arith, b.penalties, fit.0.penalties, pre.5, pre.4.there.few),
+      omega (arith, b.cost, fit.0.cost, pre.3, pre.2.there.few),
+      omega (arith, b.added, fit.0.added, pre.3, pre.2.there.few),
+      omega (arith, b.penalties, fit.0.penalties, pre.3, pre.2.there.few),
     )
 
-pub overflow_sub-left : goal.overflow_sub-left
-overflow_sub-left c = c.loop-left-test.true
-
-pub loop-left-smaller : goal.loop-left-smaller
-loop-left-smaller c = omega (arith, c.loop-left-test.true)
-
-pub loop-left-preserved : goal.loop-left-preserved
+pub loop-turn-preserved : goal.loop-turn-preserved
 unfolding tech_by
-loop-left-preserved c =
-    let inv = c.loop-left.invariant in
+loop-turn-preserved c =
+    let inv = c.loop-turn.invariant in
     let some = sym c.some_unjoined.ensures ∙ c.if-not-some_unjoined.false in
-    let record { written = written; fits = fits; fewer = fewer; work = work } = c.next_join-joined.ensures in (
-      recording_on _ _ _ _ _ _ _ _ _ inv.0 c.requires.4.there.few c.loop-left-test.true some _ _ _ _
+    let record { written = written; fits = fits; fewer = fewer; work = work } = c.next_join-joined.ensures in
+    let one : c.args.hand.pins - (c.loop-turn._turn + 1) ≡ c.args.hand.pins - c.loop-turn._turn - 1 = omega arith in (
+      rw one (recording_on _ _ _ _ _ _ _ _ _ inv.0 c.requires.2.there.few (omega arith) some _ _ _ _
           written fits
-          c.next_join-joined.auto.map c.next_join-joined.auto.plan c.in-Join.is c.with_join-totals.ensures,
+          c.next_join-joined.auto.map c.next_join-joined.auto.plan c.in-Some.is c.with_join-totals.ensures),
       work ∙ inv.1,
       record { there = inv.2.there; on_grid = inv.2.on_grid; known = λ v h is. inv.2.known v h (fewer v is) },
     )
 
-pub with_net-requires-2 : goal.with_net-requires-2
-with_net-requires-2 c = omega (arith, c.loop-left.invariant.0.joined, c.requires.5)
-
 pub returns : goal.returns
 returns c =
-    let inv = c.loop-left.invariant in
-    let (answer, fits) = recording_done _ _ _ _ _ _ _ _ _ inv.0 c.requires.4.there.few c.loop-left-test.false c.with_net-2.ensures in
+    let inv = c.loop-turn.invariant in
+    let (answer, fits) = recording_done _ _ _ _ _ _ _ _ _ inv.0 c.requires.2.there.few (omega arith) c.with_net-2.ensures in
     record {
       answer = answer;
       fits = fits;

@@ -12,17 +12,17 @@ pub leave_layer-requires : goal.leave_layer-requires
 leave_layer-requires c = c.requires.0
 
 pub returns-in_default : goal.returns-in_default
-returns-in_default c tech here same =
-    rw (via_leaves _ _ _ _ _ _ (via_told _ c.in_default.not-Along)) (c.leave_layer.ensures tech here same)
+returns-in_default c =
+    rw (via_leaves _ _ _ _ _ _ (via_told _ c.in_default.not-Along)) c.leave_layer.ensures
 
-pub line_at-line-requires : goal.line_at-line-requires
-line_at-line-requires c = layer_known c.requires.0.1
+pub line-line-requires : goal.line-line-requires
+line-line-requires c = layer_known c.requires.0
 
 pub step_along-requires : goal.step_along-requires
 step_along-requires c = c.requires.1
 
 pub returns : goal.returns
 unfolding by_segment kind_by
-returns c tech here same =
-    let least = ap (λ (l : Layer). l.least) (c.line_at-line.ensures ∙ line_told here) in
+returns c =
+    let least = ap (λ (l : Layer). l.least) (c.line-line.ensures ∙ line_told c.requires.0) in
     rw (c.in-Along.is, ← least) (c.step_along.ensures _ _ _)

@@ -1,7 +1,7 @@
 -- `rules::step::leave_by` meets its contract, by what is owed.
 use mathlib.Core.Path.{sym, ap, ◌∙◌}
 use Rattle.rules.specs.Structs.{cost_of, overhead_cost}
-use Rattle.rules.proofs.Stepping.{owed_nothing, owed_lengthened, owed_penalised, owed_forbidden, owed_closed}
+use Rattle.rules.proofs.Stepping.{extension_none, owed_nothing, owed_lengthened, owed_penalised, owed_forbidden, owed_closed}
 use Rattle.rules.proofs.step.leave_by.Goals as goal
 
 pub overhead_price-requires : goal.overhead_price-requires
@@ -19,7 +19,7 @@ returns-in-Nothing c g view p owed owes =
     rw c.by_via.ensures
     (owed_nothing _ _ _ _ _ _ _ (rw told at owes)
     (sym (ap cost_of c.in-Price.is) ∙ c.overhead_price.ensures ∙ ap (overhead_cost _) told)
-    c.no_extension.ensures)
+    (extension_none c.default.ensures))
 
 pub returns-in-Lengthened : goal.returns-in-Lengthened
 unfolding cost_of
@@ -36,7 +36,7 @@ returns-in-Penalised c g view p owed owes =
     rw c.by_via-in-Penalised.ensures
     (owed_penalised _ _ _ _ _ _ _ (rw told at owes)
     (sym (ap cost_of c.in-Price.is) ∙ c.overhead_price.ensures ∙ ap (overhead_cost _) told)
-    c.no_extension-in-Penalised.ensures)
+    (extension_none c.default-in-Penalised.ensures))
 
 pub returns-in-Forbidden : goal.returns-in-Forbidden
 returns-in-Forbidden c g view p owed owes = owed_forbidden _ _ _ _ _ _ c.args.line (rw c.in-Forbidden.is at owes)

@@ -9,23 +9,19 @@ use Rattle.rules.proofs.PriceLists.{line_told}
 use Rattle.rules.proofs.step.leave_layer.Goals as goal
 
 pub track_of-track-requires : goal.track_of-track-requires
-track_of-track-requires c = let (tech, here, same) = c.requires in (rw (← same) here.fits.sized.small, layer_known here)
+track_of-track-requires c = (c.args.prices.now.fits.sized.small, layer_known c.requires)
 
 pub overhead_of-overhead-requires : goal.overhead_of-overhead-requires
-overhead_of-overhead-requires c = let (tech, here, same) = c.requires in (tech, here, rw same c.track_of-track.ensures)
+overhead_of-overhead-requires c = (c.requires, c.track_of-track.ensures)
 
-pub line_at-requires : goal.line_at-requires
-line_at-requires c = layer_known c.requires.1
+pub line-requires : goal.line-requires
+line-requires c = layer_known c.requires
 
 pub leave_by-requires : goal.leave_by-requires
 leave_by-requires c =
-    let (tech, here, same) = c.requires in
-    let is = c.line_at.ensures ∙ line_told here in
-    let few = (c.overhead_of-overhead.ensures tech here (rw same c.track_of-track.ensures)).few in
-    (omega (arith, ap (λ (l : Layer). l.wire) is, (line_fits here.fits here.there).wire), few)
+    let is = c.line.ensures ∙ line_told c.requires in
+    (omega (arith, ap (λ (l : Layer). l.wire) is, (line_fits c.args.prices.now.fits c.requires.there).wire), c.overhead_of-overhead.ensures.few)
 
 pub returns : goal.returns
 unfolding tech_by
-returns c tech here same =
-    let owed = c.overhead_of-overhead.ensures tech here (rw same c.track_of-track.ensures) in
-    c.leave_by.ensures _ _ _ _ (rw (c.line_at.ensures ∙ line_told here) owed)
+returns c = c.leave_by.ensures _ _ _ _ (rw (c.line.ensures ∙ line_told c.requires) c.overhead_of-overhead.ensures)

@@ -3,15 +3,10 @@ use Rattle.rules.proofs.Held.{on_grid_lem}
 use Rattle.rules.proofs.step.step.Goals as goal
 
 pub vertex_by-from-requires : goal.vertex_by-from-requires
-vertex_by-from-requires c =
-    let (tech, fits, priced, same) = c.requires.0 in
-    rw (← same) (on_grid_lem fits (rw same c.requires.1))
+vertex_by-from-requires c = on_grid_lem c.args.prices.now.fits c.requires.0
 
 pub step_from-requires : goal.step_from-requires
-step_from-requires c =
-    let (tech, fits, priced, same) = c.requires.0 in
-    ((tech, record { fits = fits; priced = priced; there = rw same c.requires.1; is = rw same c.vertex_by-from.ensures }, same), c.requires.2)
+step_from-requires c = (record { there = c.requires.0; is = c.vertex_by-from.ensures }, c.requires.1)
 
 pub returns : goal.returns
-returns c tech fits priced same =
-    c.step_from.ensures tech (record { fits = fits; priced = priced; there = rw same c.requires.1; is = rw same c.vertex_by-from.ensures }) same
+returns c = c.step_from.ensures

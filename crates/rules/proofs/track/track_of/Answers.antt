@@ -3,13 +3,10 @@ use mathlib.Core.Path.{sym, ◌∙◌}
 use Rattle.job.specs.Grid.{stride_of}
 use Rattle.rules.proofs.track.track_of.Goals as goal
 
-pub steps_column-requires : goal.steps_column-requires
-steps_column-requires c = c.requires
-
-pub returns-in-true : goal.returns-in-true
+pub returns-then-steps_column : goal.returns-then-steps_column
 unfolding stride_of
-returns-in-true c = rw (sym c.steps_column.ensures ∙ c.in-true.is)
+returns-then-steps_column c = rw (sym c.steps_column.ensures ∙ c.if-steps_column.true)
 
-pub returns-in-false : goal.returns-in-false
+pub returns-else-steps_column : goal.returns-else-steps_column
 unfolding stride_of
-returns-in-false c = rw (sym c.steps_column.ensures ∙ c.in-false.is)
+returns-else-steps_column c = rw (sym c.steps_column.ensures ∙ c.if-steps_column.false)

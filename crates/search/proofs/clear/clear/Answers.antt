@@ -1,5 +1,4 @@
 -- `search::clear::clear` meets its contract: what was touched was in the heap or in the list.
-use mathlib.Core.Path.{◌∙◌}
 use native.Mathlib.Omega.{arith}
 use Rattle.search.proofs.Laying.{laid_room}
 use Rattle.search.proofs.Clearing.{cleared_listed, cleared_bare, cleared_kept}
@@ -12,7 +11,7 @@ pub clear_list-requires : goal.clear_list-requires
 clear_list-requires c =
     let laid = c.requires.1 in
     let room = laid_room laid in
-    (laid.heaped.seated.few, omega (arith, laid.heaped.seated.room, c.work-1.given), omega arith, cleared_listed _ laid c.clear_heap.ensures)
+    (laid.heaped.seated.few, omega (arith, laid.heaped.seated.room), omega arith, cleared_listed _ laid c.clear_heap.ensures)
 
 pub returns : goal.returns
 returns c =
@@ -21,5 +20,5 @@ returns c =
     let laid = c.requires.1 in
     record {
       bare = cleared_bare _ laid emptied _ unlisted;
-      kept = cleared_kept _ laid emptied _ unlisted (c.work-2-1.given ∙ c.work-1.given);
+      kept = cleared_kept _ laid emptied _ unlisted (omega arith);
     }

@@ -7,6 +7,3 @@ use Rattle.search.proofs.clear.clear_list.Given as goal
 
 abbrev pub invariant-loop-at : goal.invariant-loop-at
 invariant-loop-at l = Clearing l.n l.settled (λ i. l.n + l.n - 1 - i) (list_at l.n l.initial.work) l.initial.work l.at l.work
-
-abbrev pub decreases-loop-at : goal.decreases-loop-at
-decreases-loop-at l = l.settled - l.at

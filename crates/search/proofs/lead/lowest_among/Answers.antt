@@ -1,7 +1,8 @@
 -- `search::lead::lowest_among` meets its contract.
 use borrow.Author.Tests.{eqb-false}
-use mathlib.Core.Path.{sym, ◌∙◌}
+use mathlib.Core.Path.{◌≡◌, sym, ◌∙◌}
 use native.Mathlib.Omega.{arith}
+use Rattle.std.proofs.lemmas.Option.{none-some}
 use Rattle.search.proofs.Leading.{untried_begun, untried_on, untried_skip, untried_here, untried_none}
 use Rattle.search.proofs.lead.lowest_among.Goals as goal
 use Rattle.search.proofs.lead.lowest_among.Goals.{then-has_move+else-leads, else-has_move}
@@ -10,18 +11,14 @@ pub loop-number-init : goal.loop-number-init
 loop-number-init c = untried_begun _ _ _ _ _ _ _ _
 
 pub leads-requires : goal.leads-requires
-leads-requires c = let pre = c.requires in (pre.0, pre.1, pre.2, pre.3)
+leads-requires c = let pre = c.requires in (pre.0, pre.1)
 
 pub returns-then-leads : goal.returns-then-leads
 returns-then-leads c =
     let args = c.args in
-    untried_here _ _ args.spots.now args.bounds.now args.work.now args.best _ c.loop-number.invariant c.loop-number-test.true c.leads.ensures c.if-leads.true
-
-pub overflow_step-number : goal.overflow_step-number
-overflow_step-number c = omega (arith, c.loop-number-test.true)
-
-pub loop-number-smaller : goal.loop-number-smaller
-loop-number-smaller c = omega (arith, c.loop-number-test.true)
+    let more = c.loop-number-test.true in
+    let lowest = untried_here _ _ args.spots.now args.bounds.now.entries args.work.now args.best _ c.loop-number.invariant more c.leads.ensures c.if-leads.true in
+    record { some = λ m is. let same : c.loop-number.number ≡ m = cc in (omega (arith, same, more), sym same ∙ lowest); none = λ is. absurd (none-some _ (sym is)) }
 
 pub loop-number-preserved : goal.loop-number-preserved
 loop-number-preserved c =
@@ -30,11 +27,12 @@ loop-number-preserved c =
     let args = c.args in
     elim c.if-has_move.branch [
       | then-has_move+else-leads did ↦ untried_on _ _ _ _ _ _ _ inv more did.leads.ensures did.if-leads.false
-      | else-has_move not ↦ untried_skip _ _ args.spots.now args.bounds.now args.work.now args.best _ inv args.moves c.requires.4 more
+      | else-has_move not ↦ untried_skip _ _ args.spots.now args.bounds.now.entries args.work.now args.best _ inv args.moves c.requires.2 more
           (eqb-false _ 1 (sym c.has_move.ensures ∙ not.if-has_move.false))
     ]
 
 pub returns : goal.returns
 returns c =
     let args = c.args in
-    untried_none _ _ args.spots.now args.bounds.now args.work.now args.best _ c.loop-number.invariant c.loop-number-test.false
+    let lowest = untried_none _ _ args.spots.now args.bounds.now.entries args.work.now args.best _ c.loop-number.invariant c.loop-number-test.false in
+    record { some = λ m is. absurd (none-some _ is); none = λ is. lowest }

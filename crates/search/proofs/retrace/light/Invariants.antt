@@ -1,11 +1,7 @@
 -- `search::retrace::light` meets its contract: so many moves are turned back.
-use Prim.Native.Nat.{◌-◌}
 use Rattle.job.specs.Structs.{grid_of}
 use Rattle.search.proofs.Lighting.{Lighting}
 use Rattle.search.proofs.retrace.light.Given as goal
 
 abbrev pub invariant-loop-number : goal.invariant-loop-number
 invariant-loop-number l = Lighting (grid_of l.grid) l.v l.initial.near l.near l.number
-
-abbrev pub decreases-loop-number : goal.decreases-loop-number
-decreases-loop-number l = 4 - l.number

@@ -1,5 +1,4 @@
 -- `search::retrace::light_one` meets its contract.
-use native.Mathlib.Omega.{arith}
 use Rattle.search.proofs.Lighting.{none_entered, one_entered, one_lit, lit_stays, lit_long}
 use Rattle.search.proofs.retrace.light_one.Goals as goal
 
@@ -17,27 +16,18 @@ returns-in_default c =
 
 pub bounds-near-u : goal.bounds-near-u
 bounds-near-u c =
-    one_entered _ c.requires.0 c.requires.1 c.entered_by.ensures c.in-At.is
-
-pub overflow_add-number : goal.overflow_add-number
-overflow_add-number c = omega (arith, c.requires.4)
-
-pub overflow_mul-number : goal.overflow_mul-number
-overflow_mul-number c = omega arith
-
-pub overflow_sub-number : goal.overflow_sub-number
-overflow_sub-number c = omega arith
+    one_entered _ c.requires.0 c.requires.1 c.entered_by.ensures c.in-Some.is
 
 pub bounds-near-u-2 : goal.bounds-near-u-2
 bounds-near-u-2 c =
-    one_entered _ c.requires.0 c.requires.1 c.entered_by.ensures c.in-At.is
+    one_entered _ c.requires.0 c.requires.1 c.entered_by.ensures c.in-Some.is
 
 pub returns : goal.returns
 returns c =
     let pre = c.requires in
     let near = c.args.near.now in
     let entered = c.entered_by.ensures in
-    let into = c.in-At.is in
+    let into = c.in-Some.is in
     let moved = c.with_move.ensures in
     record {
       lit = rw moved (one_lit _ pre.0 pre.1 entered into near pre.3 _);

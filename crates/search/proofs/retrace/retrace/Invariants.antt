@@ -5,7 +5,4 @@ use Rattle.search.proofs.retrace.retrace.Given as goal
 
 abbrev pub invariant-loop-left : goal.invariant-loop-left
 invariant-loop-left l =
-    Retracing (tech_by l.tech) (seen_by l.tech l.seen) l.spots l.bounds l.initial.work l.settled l.best l.near l.work l.left l.start
-
-abbrev pub decreases-loop-left : goal.decreases-loop-left
-decreases-loop-left l = l.left
+    Retracing (tech_by l.prices.tech) (seen_by l.prices.tech l.seen) l.spots l.bounds.entries l.initial.work l.settled l.best l.near l.work l.left l.start

@@ -1,26 +1,30 @@
 -- `search::seed::seed` meets its contract.
+use Prim.Native.Nat.{◌+◌, min}
+use mathlib.Core.Path.{◌≡◌}
 use native.Mathlib.Omega.{arith}
 use Rattle.rules.specs.Structs.{tech_by}
 use Rattle.search.proofs.Seeding.{seeding_begun, seeding_done, block_asked}
 use Rattle.search.proofs.seed.seed.Goals as goal
 
 pub vertices-count-requires : goal.vertices-count-requires
-vertices-count-requires c = c.requires.0.sized.small
+vertices-count-requires c = c.args.prices.now.fits.sized.small
 
 pub loop-from-init : goal.loop-from-init
-loop-from-init c = let pre = c.requires in (seeding_begun _ _ _ _ pre.0.good pre.1.room pre.1.bare, λ h. omega arith)
+loop-from-init c =
+    let none : min 0 c.vertices-count.result ≡ 0 = omega arith in
+    (rw none (seeding_begun _ _ _ _ c.args.prices.now.fits.good c.requires.room c.requires.bare), omega arith)
 
 pub block_end-to-requires : goal.block_end-to-requires
-block_end-to-requires c = omega (arith, c.loop-from-test.true, c.vertices-count.ensures, c.requires.0.sized.vertices)
+block_end-to-requires c = omega (arith, c.loop-from-test.true, c.vertices-count.ensures, c.args.prices.now.fits.sized.vertices)
 
 pub seed_block-size-requires : goal.seed_block-size-requires
 unfolding tech_by
 seed_block-size-requires c =
-    let pre = c.requires in
     let inv = c.loop-from.invariant in
     let more = c.loop-from-test.true in
-    let (room, from, to, below) = block_asked c.vertices-count.ensures more (inv.1 more) pre.0.sized.vertices c.block_end-to.ensures in
-    (pre.0, room, from, to, below, (_, inv.0), pre.2)
+    let here : min c.loop-from.from c.vertices-count.result ≡ c.loop-from.from = omega (arith, more) in
+    let (room, from, to, below) = block_asked c.vertices-count.ensures more inv.1 c.args.prices.now.fits.sized.vertices c.block_end-to.ensures in
+    (room, from, to, below, (_, rw here at inv.0))
 
 pub loop-from-smaller : goal.loop-from-smaller
 loop-from-smaller c = omega (arith, c.loop-from-test.true, c.block_end-to.ensures)
@@ -28,8 +32,9 @@ loop-from-smaller c = omega (arith, c.loop-from-test.true, c.block_end-to.ensure
 pub loop-from-preserved : goal.loop-from-preserved
 loop-from-preserved c =
     let inv = c.loop-from.invariant in
-    let whole = inv.1 c.loop-from-test.true in
-    (c.seed_block-size.ensures _ inv.0, λ h. omega (arith, c.block_end-to.ensures, whole))
+    let here : min c.loop-from.from c.vertices-count.result ≡ c.loop-from.from = omega (arith, c.loop-from-test.true) in
+    let end : min (c.loop-from.from + 128) c.vertices-count.result ≡ c.block_end-to.result = omega (arith, c.block_end-to.ensures) in
+    (rw end (c.seed_block-size.ensures _ (rw here at inv.0)), omega (arith, inv.1))
 
 pub returns : goal.returns
 unfolding tech_by

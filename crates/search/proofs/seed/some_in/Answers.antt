@@ -1,24 +1,11 @@
 -- `search::seed::some_in` meets its contract.
 use mathlib.Core.Logic.{inl, inr}
-use native.Mathlib.Omega.{arith}
 use Rattle.search.proofs.Seeding.{flagged_begun, flagged_on, flagged_none}
 use Rattle.search.proofs.seed.some_in.Goals as goal
 use Rattle.search.proofs.seed.some_in.Goals.{then-spots-from-ne0, else-spots-from-ne0}
 
 pub loop-i-init : goal.loop-i-init
 loop-i-init c = flagged_begun _ _
-
-pub overflow_add-from : goal.overflow_add-from
-overflow_add-from c = omega (arith, c.requires, c.loop-i-test.true)
-
-pub bounds-spots-from : goal.bounds-spots-from
-bounds-spots-from c = omega (arith, c.requires, c.loop-i-test.true)
-
-pub overflow_step-i : goal.overflow_step-i
-overflow_step-i c = omega (arith, c.loop-i-test.true)
-
-pub loop-i-smaller : goal.loop-i-smaller
-loop-i-smaller c = omega (arith, c.loop-i-test.true)
 
 pub loop-i-preserved : goal.loop-i-preserved
 loop-i-preserved c =

@@ -5,18 +5,14 @@ use Rattle.rules.specs.Structs.{tech_by}
 use Rattle.search.proofs.Settling.{between-begun, between_on, ended_none, ended_best, least_asked, least_some, removed_room, removed_turn, removed_kept}
 use Rattle.search.proofs.settle.settle.Goals as goal
 
-pub places-n-requires : goal.places-n-requires
-places-n-requires c = c.requires.0
-
 pub seed-requires : goal.seed-requires
-seed-requires c = let pre = c.requires in (pre.0, pre.1, pre.4)
+seed-requires c = c.requires.0
 
 pub loop-front-init : goal.loop-front-init
 unfolding tech_by
 loop-front-init c =
-    let pre = c.requires in
     let seeded = c.seed.ensures in
-    (between-begun _ _ _ pre.0.good seeded.laid seeded.seeded pre.2, beyond_refl _ _)
+    (between-begun _ _ _ c.args.prices.now.fits.good seeded.laid seeded.seeded c.requires.1, beyond_refl _ _)
 
 pub key_at-top-requires : goal.key_at-top-requires
 key_at-top-requires c = least_asked c.places-n.ensures c.loop-front.invariant.0 c.loop-front-test.true
@@ -34,9 +30,16 @@ returns-then-ended c =
     let inv = c.loop-front.invariant in
     let one = least_some counted inv.0 c.loop-front-test.true key in
     record {
-      found = ended_best _ _ _ c.requires.0.good inv.0 counted one key (omega (arith, c.if-ended.true));
+      found = rw c.cheapest.ensures.is (ended_best _ _ _ c.args.prices.now.fits.good inv.0 counted one key (omega (arith, c.if-ended.true)));
+      below = c.cheapest.ensures.below;
       kept = beyond_trans inv.1 c.seed.ensures.kept;
     }
+
+pub cheapest-requires : goal.cheapest-requires
+cheapest-requires c = c.loop-front.invariant.0.spread.bound
+
+pub cheapest-requires-2 : goal.cheapest-requires-2
+cheapest-requires-2 c = c.loop-front.invariant.0.spread.bound
 
 pub settle_next-item-requires : goal.settle_next-item-requires
 settle_next-item-requires c =
@@ -56,9 +59,8 @@ overflow_sub-rest c = c.loop-front-test.true
 
 pub reach_all-front-requires : goal.reach_all-front-requires
 reach_all-front-requires c =
-    let pre = c.requires in
-    let (distance, top, turn) = removed_turn c.places-n.ensures c.loop-front.invariant.0 c.loop-front-test.true c.settle_next-item.ensures pre.0.good c.key_at-top.ensures in
-    (pre.0, (_, distance, top, turn), pre.3, pre.4, pre.5)
+    let (distance, top, turn) = removed_turn c.places-n.ensures c.loop-front.invariant.0 c.loop-front-test.true c.settle_next-item.ensures c.args.prices.now.fits.good c.key_at-top.ensures in
+    ((_, distance, top, turn), c.requires.2)
 
 pub loop-front-smaller : goal.loop-front-smaller
 loop-front-smaller c = omega (arith, removed_room c.places-n.ensures c.loop-front.invariant.0 c.loop-front-test.true)
@@ -69,7 +71,7 @@ loop-front-preserved c =
     let some = c.loop-front-test.true in
     let removed = c.settle_next-item.ensures in
     let reached = c.reach_all-front.ensures in
-    let fine = c.requires.0.good in
+    let fine = c.args.prices.now.fits.good in
     let inv = c.loop-front.invariant in
     let (distance, top, turn) = removed_turn counted inv.0 some removed fine c.key_at-top.ensures in
     let kept = removed_kept counted inv.0 some removed in
@@ -79,6 +81,7 @@ pub returns : goal.returns
 returns c =
     let inv = c.loop-front.invariant in
     record {
-      found = ended_none _ _ _ c.requires.0.good inv.0 c.loop-front-test.false;
+      found = rw c.cheapest-2.ensures.is (ended_none _ _ _ c.args.prices.now.fits.good inv.0 c.loop-front-test.false);
+      below = c.cheapest-2.ensures.below;
       kept = beyond_trans inv.1 c.seed.ensures.kept;
     }

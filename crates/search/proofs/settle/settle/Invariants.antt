@@ -8,8 +8,8 @@ use Rattle.search.proofs.settle.settle.Given as goal
 
 abbrev pub invariant-loop-front : goal.invariant-loop-front
 invariant-loop-front l =
-    Between (tech_by l.tech) (seen_by l.tech l.seen) l.spots l.bounds l.near l.work l.front.size l.settled l.front.best
-    × Beyond (places (tech_by l.tech) + places (tech_by l.tech)) l.work l.initial.work
+    Between (tech_by l.prices.tech) (seen_by l.prices.tech l.seen) l.spots l.bounds.entries l.near l.work l.front.size l.settled l.front.best
+    × Beyond (places (tech_by l.prices.tech) + places (tech_by l.prices.tech)) l.work l.initial.work
 
 abbrev pub decreases-loop-front : goal.decreases-loop-front
 decreases-loop-front l = l.n - l.settled

@@ -1,5 +1,5 @@
 -- `search::tries::try_along` meets its contract.
-use mathlib.Core.Path.{refl, sym, ap, ◌∙◌}
+use mathlib.Core.Path.{sym, ap, ◌∙◌}
 use Rattle.job.specs.declared.groups.Layer.{Layer}
 use Rattle.rules.specs.Structs.{grown_of}
 use Rattle.rules.proofs.Fitting.{layer_known}
@@ -10,41 +10,29 @@ use Rattle.search.proofs.Asking.{settled_here, settled_short}
 use Rattle.search.proofs.tries.try_along.Goals as goal
 
 pub entry_of-requires : goal.entry_of-requires
-entry_of-requires c = (_, settled_here c.requires.0 c.requires.1, refl)
+entry_of-requires c = settled_here c.requires.0
 
-pub returns-in_default : goal.returns-in_default
+pub returns-in_err-entry : goal.returns-in_err-entry
 unfolding tried_of
-returns-in_default c =
-    let pre = c.requires in
-    record {
-      tried = priced_shut _ _ _ _ (sym (c.entry_of.ensures _ (settled_here pre.0 pre.1) refl) ∙ c.in_default.is);
-      owed = refl;
-    }
+returns-in_err-entry c =
+    rw c.from_residual.ensures (priced_shut _ _ _ _ (sym c.entry_of.ensures ∙ c.in_err-entry.was))
 
-pub line_at-line-requires : goal.line_at-line-requires
-line_at-line-requires c =
-    let pre = c.requires in
-    layer_known (settled_here pre.0 pre.1)
+pub line-line-requires : goal.line-line-requires
+line-line-requires c = layer_known (settled_here c.requires.0)
 
 pub grow-requires : goal.grow-requires
 grow-requires c = settled_short c.requires.0
 
-pub returns-in_default-grow : goal.returns-in_default-grow
+pub returns-in_err-longer : goal.returns-in_err-longer
 unfolding tried_of grown_of
-returns-in_default-grow c =
+returns-in_err-longer c =
     let pre = c.requires in
-    let least = ap (λ (l : Layer). l.least) (c.line_at-line.ensures ∙ line_told (settled_here pre.0 pre.1)) in
-    record {
-      tried = priced_back _ _ _ _ (sym (c.entry_of.ensures _ (settled_here pre.0 pre.1) refl) ∙ c.in-Open.is) pre.2 least (sym c.grow.ensures ∙ ap grown_of c.in_default-grow.is);
-      owed = refl;
-    }
+    let least = ap (λ (l : Layer). l.least) (c.line-line.ensures ∙ line_told (settled_here pre.0)) in
+    rw c.from_residual-in_err-longer.ensures (priced_back _ _ _ _ (sym c.entry_of.ensures ∙ c.in_ok-entry.was) pre.1 least (sym c.grow.ensures ∙ ap grown_of c.in_err-longer.was))
 
 pub returns : goal.returns
 unfolding tried_of grown_of
 returns c =
     let pre = c.requires in
-    let least = ap (λ (l : Layer). l.least) (c.line_at-line.ensures ∙ line_told (settled_here pre.0 pre.1)) in
-    record {
-      tried = priced_along _ _ _ _ (sym (c.entry_of.ensures _ (settled_here pre.0 pre.1) refl) ∙ c.in-Open.is) pre.2 least (sym c.grow.ensures ∙ ap grown_of c.in-To.is);
-      owed = refl;
-    }
+    let least = ap (λ (l : Layer). l.least) (c.line-line.ensures ∙ line_told (settled_here pre.0)) in
+    priced_along _ _ _ _ (sym c.entry_of.ensures ∙ c.in_ok-entry.was) pre.1 least (sym c.grow.ensures ∙ ap grown_of c.in_ok-longer.was)

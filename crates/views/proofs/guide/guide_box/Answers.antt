@@ -6,36 +6,24 @@ use Rattle.views.specs.Sight.{in_layer}
 use Rattle.views.proofs.Axes.{found_begin, found_turn, found_none, found_end}
 use Rattle.views.proofs.Rows.{layer_outside}
 use Rattle.views.proofs.guide.guide_box.Goals as goal
-use Rattle.views.proofs.guide.guide_box.Goals.{then-on_layers, else-on_layers}
+use Rattle.views.proofs.guide.guide_box.Goals.{then-holds, else-holds}
 
 pub loop-layer-init : goal.loop-layer-init
 loop-layer-init c = found_begin _ _ _ _
-
-pub overflow_cast-layer : goal.overflow_cast-layer
-overflow_cast-layer c = omega (arith, c.requires.0.small.layers)
-
-pub on_layers-requires : goal.on_layers-requires
-on_layers-requires c = tt
 
 pub guide_layer-requires : goal.guide_layer-requires
 guide_layer-requires c =
     let pre = c.requires in
     (pre.0, omega arith, omega arith)
 
-pub overflow_step-layer : goal.overflow_step-layer
-overflow_step-layer c = omega arith
-
-pub loop-layer-smaller : goal.loop-layer-smaller
-loop-layer-smaller c = omega arith
-
 pub loop-layer-preserved : goal.loop-layer-preserved
 unfolding in_layer
 loop-layer-preserved c =
     let so_far = c.loop-layer.invariant in
-    let asked = c.on_layers.ensures in
-    elim c.if-on_layers.branch [
-      | then-on_layers w ↦ rw w.seen-is (found_turn _ _ _ so_far w.guide_layer.auto.seen w.guide_layer.ensures)
-      | else-on_layers w ↦ rw w.seen-is (found_none _ _ _ so_far (layer_outside _ _ (sym asked ∙ w.if-on_layers.false)))
+    let asked = c.holds.ensures in
+    elim c.if-holds.branch [
+      | then-holds w ↦ rw w.seen-is (found_turn _ _ _ so_far w.guide_layer.auto.seen w.guide_layer.ensures)
+      | else-holds w ↦ rw w.seen-is (found_none _ _ _ so_far (layer_outside _ _ (sym asked ∙ w.if-holds.false)))
     ]
 
 pub shape_of-seen : goal.shape_of-seen

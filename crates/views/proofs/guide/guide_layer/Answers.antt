@@ -6,36 +6,24 @@ use Rattle.views.specs.Sight.{in_row}
 use Rattle.views.proofs.Axes.{found_begin, found_turn, found_none, found_end}
 use Rattle.views.proofs.Rows.{row_outside}
 use Rattle.views.proofs.guide.guide_layer.Goals as goal
-use Rattle.views.proofs.guide.guide_layer.Goals.{then-on_rows, else-on_rows}
+use Rattle.views.proofs.guide.guide_layer.Goals.{then-holds, else-holds}
 
 pub loop-row-init : goal.loop-row-init
 loop-row-init c = found_begin _ _ _ _
-
-pub overflow_cast-row : goal.overflow_cast-row
-overflow_cast-row c = omega (arith, c.requires.0.small.rows)
-
-pub on_rows-requires : goal.on_rows-requires
-on_rows-requires c = tt
 
 pub guide_row-requires : goal.guide_row-requires
 guide_row-requires c =
     let pre = c.requires in
     (pre.0, omega arith, pre.2, omega arith)
 
-pub overflow_step-row : goal.overflow_step-row
-overflow_step-row c = omega arith
-
-pub loop-row-smaller : goal.loop-row-smaller
-loop-row-smaller c = omega arith
-
 pub loop-row-preserved : goal.loop-row-preserved
 unfolding in_row
 loop-row-preserved c =
     let so_far = c.loop-row.invariant in
-    let asked = c.on_rows.ensures in
-    elim c.if-on_rows.branch [
-      | then-on_rows w ↦ rw w.seen-is (found_turn _ _ _ so_far w.guide_row.auto.seen w.guide_row.ensures)
-      | else-on_rows w ↦ rw w.seen-is (found_none _ _ _ so_far (row_outside _ _ _ (sym asked ∙ w.if-on_rows.false)))
+    let asked = c.holds.ensures in
+    elim c.if-holds.branch [
+      | then-holds w ↦ rw w.seen-is (found_turn _ _ _ so_far w.guide_row.auto.seen w.guide_row.ensures)
+      | else-holds w ↦ rw w.seen-is (found_none _ _ _ so_far (row_outside _ _ _ (sym asked ∙ w.if-holds.false)))
     ]
 
 pub shape_of-seen : goal.shape_of-seen

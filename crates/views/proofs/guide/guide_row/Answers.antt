@@ -16,38 +16,17 @@ number-v-requires c =
     let small = pre.0.small in
     (small, record { layer = omega (arith, small.layers, pre.2); row = omega (arith, small.rows, pre.3); column = omega (arith, small.columns) })
 
-pub overflow_cast-layer : goal.overflow_cast-layer
-overflow_cast-layer c = let pre = c.requires in omega (arith, pre.0.small.layers, pre.2)
-
-pub overflow_cast-row : goal.overflow_cast-row
-overflow_cast-row c = let pre = c.requires in omega (arith, pre.0.small.rows, pre.3)
-
-pub overflow_cast-column : goal.overflow_cast-column
-overflow_cast-column c = omega (arith, c.requires.0.small.columns)
-
-pub in_box-inside-requires : goal.in_box-inside-requires
-in_box-inside-requires c = tt
-
 pub bounds-seen-v : goal.bounds-seen-v
 bounds-seen-v c =
     let below : (let args = c.args in
     Below (grid_of args.grid) (record { layer = args.layer; row = args.row; column = c.loop-column.column })) = let pre = c.requires in record { layer = pre.2; row = pre.3; column = c.loop-column-test.true } in
     omega (arith, row_number _ _ _ _ below c.number-v.ensures)
 
-pub guided_byte-requires : goal.guided_byte-requires
-guided_byte-requires c = tt
-
 pub bounds-seen-v-in-loop-column : goal.bounds-seen-v-in-loop-column
 bounds-seen-v-in-loop-column c =
     let below : (let args = c.args in
     Below (grid_of args.grid) (record { layer = args.layer; row = args.row; column = c.loop-column.column })) = let pre = c.requires in record { layer = pre.2; row = pre.3; column = c.loop-column-test.true } in
     omega (arith, row_number _ _ _ _ below c.number-v.ensures)
-
-pub overflow_step-column : goal.overflow_step-column
-overflow_step-column c = omega arith
-
-pub loop-column-smaller : goal.loop-column-smaller
-loop-column-smaller c = omega arith
 
 pub loop-column-preserved : goal.loop-column-preserved
 loop-column-preserved c =

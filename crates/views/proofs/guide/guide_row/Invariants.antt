@@ -1,5 +1,4 @@
 -- `views::guide::guide_row` meets its contract: the vertices at the columns below are found.
-use Prim.Native.Nat.{◌-◌}
 use Rattle.job.specs.Structs.{grid_of, box_of}
 use Rattle.views.specs.Sight.{in_row}
 use Rattle.views.proofs.Axes.{FoundTo}
@@ -7,6 +6,3 @@ use Rattle.views.proofs.guide.guide_row.Given as goal
 
 abbrev pub invariant-loop-column : goal.invariant-loop-column
 invariant-loop-column l = FoundTo (grid_of l.grid) (λ w. w.column) (in_row l.layer l.row (box_of l.guide)) l.initial.seen l.seen l.column
-
-abbrev pub decreases-loop-column : goal.decreases-loop-column
-decreases-loop-column l = l.column-end - l.column

@@ -1,32 +1,28 @@
 -- `views::sight::byte_of` meets its contract.
+use mathlib.Core.Path.{◌≡◌, ap, ◌∙◌}
 use mathlib.Core.Bool.{not}
 use native.Mathlib.Omega.{arith}
 use lib.Dec.{eqb}
+use Rattle.occupants.specs.Occupants.{is_free}
+use Rattle.occupants.proofs.Same.{same_free}
 use Rattle.views.proofs.Flags.{flag_below, byte_flags}
 use Rattle.views.proofs.sight.byte_of.Goals as goal
 
-pub flag_if-blocked-requires : goal.flag_if-blocked-requires
-flag_if-blocked-requires c = tt
-
-pub flag_if-taken-requires : goal.flag_if-taken-requires
-flag_if-taken-requires c = tt
-
 pub overflow_add-result : goal.overflow_add-result
 overflow_add-result c =
-    let blocked = flag_below (not (eqb c.args.occupant 0)) 1 c.flag_if-blocked.ensures in
+    let blocked = flag_below _ 1 c.flag_if-blocked.ensures in
     let taken = flag_below (not (eqb c.args.code 0)) 2 c.flag_if-taken.ensures in
     omega arith
-
-pub flag_if-requires : goal.flag_if-requires
-flag_if-requires c = tt
 
 pub overflow_add-result-2 : goal.overflow_add-result-2
 overflow_add-result-2 c =
     let args = c.args in
-    let blocked = flag_below (not (eqb args.occupant 0)) 1 c.flag_if-blocked.ensures in
+    let blocked = flag_below _ 1 c.flag_if-blocked.ensures in
     let taken = flag_below (not (eqb args.code 0)) 2 c.flag_if-taken.ensures in
     let outside = flag_below (not args.inside) 4 c.flag_if.ensures in
     omega arith
 
 pub returns : goal.returns
-returns c = byte_flags _ _ _ c.flag_if-blocked.ensures c.flag_if-taken.ensures c.flag_if.ensures
+returns c =
+    let occupied : c.ne.result ≡ not (is_free c.args.occupant) = c.ne.ensures ∙ ap not (same_free c.args.occupant) in
+    byte_flags _ _ _ (rw occupied at c.flag_if-blocked.ensures) c.flag_if-taken.ensures c.flag_if.ensures

@@ -5,12 +5,6 @@ use Rattle.views.specs.Sight.{own_byte}
 use Rattle.views.proofs.Flags.{flag_below}
 use Rattle.views.proofs.sight.own_byte.Goals as goal
 
-pub taken_by-requires : goal.taken_by-requires
-taken_by-requires c = tt
-
-pub flag_if-requires : goal.flag_if-requires
-flag_if-requires c = tt
-
 pub overflow_add-result : goal.overflow_add-result
 overflow_add-result c = let taken = flag_below c.taken_by.result 2 c.flag_if.ensures in omega arith
 

@@ -1,0 +1,9 @@
+-- `rules::price::Prices::line` meets its contract.
+use mathlib.Core.Path.{refl}
+use Rattle.job.specs.Structs.{no_line}
+use Rattle.rules.specs.Structs.{line_at}
+use Rattle.rules.proofs.price.Prices.line.Goals as goal
+
+pub returns : goal.returns
+unfolding line_at no_line
+returns c = refl
