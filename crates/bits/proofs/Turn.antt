@@ -6,9 +6,9 @@
 --         a part put together with what a byte keeps
 --     field_byte, field_in_byte, field_join
 --         a field in one byte, and a field in two parts
---     before, InByte, read_room, read_turn
---         the loops over a field's bytes: the bits before a byte, those in it; the room to read them, and they
---         are read
+--     before, InByte, in_turn, read_room, read_turn
+--         the loops over a field's bytes: the bits before a byte, those in it and how many; the room to read
+--         them, and they are read
 --     put_out, put_in_byte_lem
 --         bits past the last byte, and bits in one byte
 --     put_first, put_turn, put_last
@@ -123,6 +123,11 @@ pub record InByte (at width i from to : ℕ) : Type 0 where
   pub to_is : to ≡ min (at + width) (8 * i + 8)
   pub first : at / 8 ≤ i
   pub last : i < (at + width + 7) / 8
+
+-- so many, by those that are left and those that are skipped in the byte
+pub in_turn : {at width i left skip count : ℕ} → left ≡ width - before at width i → skip ≡ max at (8 * i) % 8 → count ≡ min left (8 - skip)
+    → InByte at width i (max at (8 * i)) (min (at + width) (8 * i + 8)) → count ≡ min (at + width) (8 * i + 8) - max at (8 * i)
+in_turn l s c p = omega (arith, l, s, c, p.first, p.last)
 
 module _ (s : List ℕ) {at width value i from to : ℕ} (p : InByte at width i from to) (e : value ≡ field (bits_of s) at (before at width i)) where
   -- there is room for them

@@ -40,10 +40,13 @@ impl Cursor {
     {
         let end = self.at + width;
         let mut value: usize = 0;
+        let mut skip = self.at % 8;
+        let mut left = width;
         for index in self.at / 8..(end + 7) / 8 {
-            let from = self.at.max(8 * index);
-            let count = end.min(8 * index + 8) - from;
-            value = joined(value, count, part_of(s[index], from % 8, count));
+            let count = left.min(8 - skip);
+            value = joined(value, count, part_of(s[index], skip, count));
+            left -= count;
+            skip = 0;
         }
         FieldRead {
             value,

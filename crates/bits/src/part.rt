@@ -26,7 +26,10 @@ pub fn put_part(buf: &mut [u8], at: usize, count: usize, value: usize)
 {
     let index = at / 8;
     let skip = at % 8;
-    if 0 < count && index < buf.len() {
+    if count == 0 {
+        return;
+    }
+    if index < buf.len() {
         buf[index] = in_byte(buf[index], skip, count, value);
     }
 }

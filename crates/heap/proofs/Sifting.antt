@@ -11,7 +11,7 @@ use mathlib.Core.List.{List}
 use native.Mathlib.Omega.{arith}
 use lib.ListN.{length, get_or}
 use Rattle.heap.specs.Heaps.{most_items, greatest_key, key_of, slot_of, item_at, key_at, above, Seated}
-use Rattle.heap.specs.Sifts.{placed, Moved, Sifted, Rising, Sinking, Held, Climbs, Sinks}
+use Rattle.heap.specs.Sifts.{placed, Moved, Sifted, Rising, Sinking, Held, Climbs, Least, Sinks}
 use Rattle.heap.proofs.Words.{key_word, placed_long, placed_item, placed_agree, placed_word, placed_other}
 use Rattle.heap.proofs.Orders.{rising_on, rising_done, sinking_on, sinking_done}
 use Rattle.heap.proofs.Swaps.{seat_once, Swapped, swapped_keys, swapped_seated, swapped_moved}
@@ -210,9 +210,9 @@ module _ {n size item key : ℕ} {found work : List ℕ} {at : ℕ} (c : Falling
   falling_put = hole_put work at item key c.seated c.sinking.known c.known
 
   -- what the move of the item below asks
-  pub falling_asked : {child : ℕ} → Sinks n size at key work (Some child) → ShiftAsked n child at work
+  pub falling_asked : {child : ℕ} → Least n size at work child → ShiftAsked n child at work
   unfolding Sinks
-  falling_asked {child} t = hole_shift work at item key c.seated c.sinking.known c.known child t.0.known (omega (arith, t.0.low))
+  falling_asked {child} l = hole_shift work at item key c.seated c.sinking.known c.known child l.known (omega (arith, l.low))
 
   -- a seat down
   pub falling_on : {left : List ℕ} {child : ℕ} → Sinks n size at key work (Some child) → left ≡ placed work n at (item_at work n child) (key_at work n child)

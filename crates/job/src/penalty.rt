@@ -13,16 +13,22 @@ pub enum Penalty {
 impl Penalty {
     // The closed price.
     pub const CLOSED: usize = 65_535;
+
+    pub fn from_field(field: usize) -> Penalty
+        ensures { result ≡ penalty_of field }
+    {
+        if field == Penalty::CLOSED {
+            Penalty::Closed
+        } else {
+            Penalty::Price(field)
+        }
+    }
 }
 
 impl From<usize> for Penalty {
     ghost from_gives = { λ field penalty. penalty ≡ penalty_of field };
 
     fn from(field: usize) -> Penalty {
-        if field == Penalty::CLOSED {
-            Penalty::Closed
-        } else {
-            Penalty::Price(field)
-        }
+        Penalty::from_field(field)
     }
 }

@@ -4,7 +4,6 @@ ghost use Rattle.lines.specs.Written.{Written};
 ghost use Rattle.maizespell.specs.Line.{routed_line, good_line, line_of};
 
 use lines::{put_hex_line, put_refused_line, put_too_large};
-use occupants::occupant::Occupant;
 use reader::layers::largest_least;
 use reader::whole::read_job;
 use router::routing_call::maizespell_routing;
@@ -50,7 +49,7 @@ pub fn line_of(bytes: &[u8], line: &mut [u8]) -> usize
     if 65536 < bytes.len() {
         return put_too_large(line);
     }
-    let mut occupants = [Occupant::Free; 16384];
+    let mut occupants = [0; 16384];
     match read_job(bytes, &mut occupants) {
         Ok(read) => good_line(
             bytes,

@@ -12,14 +12,13 @@ use native.Mathlib.Nat.{not-suc-le-zero, le_of_suc-le-suc, eq-or-lt_of_le, add-z
 use native.Mathlib.Omega.{arith}
 use lib.ListN.{length, get_or, set, take, drop, take-append-drop}
 use lib.Seq.{length-take-le, get_or-take, get_or-set_same, get_or-set_other, ext_get_or}
+use lib.Dec.{eqb}
 use Rattle.job.specs.Lists.{any}
 use Rattle.job.specs.Grid.{Grid, Vertex, vertices, same}
 use Rattle.job.specs.Job.{Job, Obstacle}
 use Rattle.job.specs.Reading.{on_obstacle}
 use Rattle.job.proofs.Grids.{below_inside}
-use Rattle.occupants.specs.Occupants.{Occupants, occupant_of, is_obstacle}
-use Rattle.occupants.specs.declared.occupant.Occupant.{Occupant}
-use Rattle.occupants.specs.declared.occupant.Occupant.TheVariants.{Free, Obstacle as AnObstacle, Pin}
+use Rattle.occupants.specs.Occupants.{Occupants, occupant_of}
 use Rattle.rules.specs.Tracks.{vertex_by}
 use Rattle.rules.specs.Maps.{map_code, codes_below, map_of}
 use Rattle.rules.proofs.Vertices.{number_vertex, vertex_below}
@@ -27,10 +26,10 @@ use Rattle.metal.specs.Codes.{Codes, Beyond, with_obstacles}
 use Rattle.metal.proofs.Slices.{beyond_refl, beyond_trans, beyond_store, beyond_at}
 
 -- putting obstacles into the first n leaves the rest as found
-pub obstacles_beyond : (occupants : List Occupant) (m n : ℕ) (codes : List ℕ) → n ≤ m → Beyond m (with_obstacles occupants n codes) codes
+pub obstacles_beyond : (occupants : List ℕ) (m n : ℕ) (codes : List ℕ) → n ≤ m → Beyond m (with_obstacles occupants n codes) codes
 unfolding with_obstacles
 obstacles_beyond occupants m zero codes h = beyond_refl m codes
-obstacles_beyond occupants m (suc n) codes h = by (is_obstacle (get_or occupants n Free)) (obstacles_beyond occupants m n codes (omega arith))
+obstacles_beyond occupants m (suc n) codes h = by (eqb (get_or occupants n 0) 1) (obstacles_beyond occupants m n codes (omega arith))
   where
     by : (b : Bool) → Beyond m (with_obstacles occupants n codes) codes
         → Beyond m (cond b (set (with_obstacles occupants n codes) n 257) (with_obstacles occupants n codes)) codes
@@ -38,8 +37,8 @@ obstacles_beyond occupants m (suc n) codes h = by (is_obstacle (get_or occupants
     by false rest = rest
 
 -- 257 at an obstacle's occupant, else the code that was there
-pub obstacles_at_lem : (occupants : List Occupant) (n : ℕ) (codes : List ℕ) (v : ℕ) → v < n → n ≤ length codes
-    → get_or (with_obstacles occupants n codes) v 0 ≡ cond (is_obstacle (get_or occupants v Free)) 257 (get_or codes v 0)
+pub obstacles_at_lem : (occupants : List ℕ) (n : ℕ) (codes : List ℕ) (v : ℕ) → v < n → n ≤ length codes
+    → get_or (with_obstacles occupants n codes) v 0 ≡ cond (eqb (get_or occupants v 0) 1) 257 (get_or codes v 0)
 unfolding with_obstacles
 obstacles_at_lem occupants zero codes v h on = absurd (not-suc-le-zero h)
 obstacles_at_lem occupants (suc n) codes v h on = by (eq-or-lt_of_le (le_of_suc-le-suc h)) (λ below. obstacles_at_lem occupants n codes v below (omega arith))
@@ -58,10 +57,10 @@ obstacles_at_lem occupants (suc n) codes v h on = by (eq-or-lt_of_le (le_of_suc-
     there true below = get_or-set_other so_far n v 257 0 (λ e. omega (arith, e, below))
     there false below = refl
 
-    by : (v ≡ n) ⊎ (v < n) → (v < n → get_or so_far v 0 ≡ cond (is_obstacle (get_or occupants v Free)) 257 (get_or codes v 0))
-        → get_or (cond (is_obstacle (get_or occupants n Free)) (set so_far n 257) so_far) v 0 ≡ cond (is_obstacle (get_or occupants v Free)) 257 (get_or codes v 0)
-    by (inl e) rest = rw e (here (is_obstacle (get_or occupants n Free)))
-    by (inr below) rest = there (is_obstacle (get_or occupants n Free)) below ∙ rest below
+    by : (v ≡ n) ⊎ (v < n) → (v < n → get_or so_far v 0 ≡ cond (eqb (get_or occupants v 0) 1) 257 (get_or codes v 0))
+        → get_or (cond (eqb (get_or occupants n 0) 1) (set so_far n 257) so_far) v 0 ≡ cond (eqb (get_or occupants v 0) 1) 257 (get_or codes v 0)
+    by (inl e) rest = rw e (here (eqb (get_or occupants n 0) 1))
+    by (inr below) rest = there (eqb (get_or occupants n 0) 1) below ∙ rest below
 
 -- ---- the map of a job
 
@@ -87,22 +86,22 @@ module _ (j : Job) (metal : List (List ℕ)) where
       code_at (suc from) n i (le_of_suc-le-suc h) ∙ ap (map_code j metal) position
 
 -- a vertex has an obstacle's occupant where it is on an obstacle
-obstacle_occupant : (g : Grid) (obstacles : List Obstacle) (pins : List Vertex) (occupants : List Occupant) (v : ℕ) → Occupants g obstacles pins occupants → v < vertices g
-    → is_obstacle (get_or occupants v Free) ≡ on_obstacle g obstacles (vertex_by g v)
+obstacle_occupant : (g : Grid) (obstacles : List Obstacle) (pins : List Vertex) (occupants : List ℕ) (v : ℕ) → Occupants g obstacles pins occupants → v < vertices g
+    → eqb (get_or occupants v 0) 1 ≡ on_obstacle g obstacles (vertex_by g v)
 unfolding occupant_of
 obstacle_occupant g obstacles pins occupants v says h =
     let x = vertex_by g v in
-    let occupant : get_or occupants v Free ≡ occupant_of g obstacles pins x = rw (number_vertex g v) at (says.says x (below_inside g x (vertex_below g h))) in
+    let occupant : get_or occupants v 0 ≡ occupant_of g obstacles pins x = rw (number_vertex g v) at (says.says x (below_inside g x (vertex_below g h))) in
     rw occupant (by (on_obstacle g obstacles x) (any (same x) pins))
   where
-    by : (b c : Bool) → is_obstacle (cond b AnObstacle (cond c Pin Free)) ≡ b
+    by : (b c : Bool) → eqb (cond b 1 (cond c 2 0)) 1 ≡ b
     by true c = refl
     by false true = refl
     by false false = refl
 
 -- codes of the metal, with the obstacles put in, are the map of the job, and past its need the slice is as
 -- found
-pub map_finished : (j : Job) (metal : List (List ℕ)) {pins : List Vertex} (occupants : List Occupant) (codes found : List ℕ) → Occupants j.grid j.obstacles pins occupants
+pub map_finished : (j : Job) (metal : List (List ℕ)) {pins : List Vertex} (occupants codes found : List ℕ) → Occupants j.grid j.obstacles pins occupants
     → vertices j.grid ≤ length found → Codes j.grid metal codes → Beyond (vertices j.grid) codes found
     → with_obstacles occupants (vertices j.grid) codes ≡ map_of j metal ++ drop (vertices j.grid) found
 unfolding Codes map_of map_code

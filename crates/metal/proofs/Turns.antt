@@ -5,16 +5,13 @@
 use Prim.Native.Nat.{ℕ, suc, ◌+◌, ◌-◌, ◌≤◌, ◌<◌}
 use mathlib.Core.Path.{◌≡◌, refl, sym, ap, ◌∙◌}
 use mathlib.Core.List.{List}
-use mathlib.Core.Bool.{true, false}
 use native.Mathlib.Numerals.{add-one}
 use native.Mathlib.Omega.{arith}
 use lib.ListN.{length, get_or, set, drop, length-set, drop_of_length-le}
 use lib.Seq.{drop-cons}
+use borrow.Author.Tests.{eq-eqb, ne_eqb}
 use Rattle.job.specs.Lists.{All}
 use Rattle.job.specs.Grid.{Grid, vertices, stride_of}
-use Rattle.occupants.specs.Occupants.{is_obstacle}
-use Rattle.occupants.specs.declared.occupant.Occupant.{Occupant}
-use Rattle.occupants.specs.declared.occupant.Occupant.TheVariants.{Free}
 use Rattle.rules.specs.Tracks.{layer_of, entered}
 use Rattle.rules.specs.Segments.{Direction}
 use Rattle.rules.specs.Overheads.{toward}
@@ -26,38 +23,38 @@ use Rattle.metal.specs.Codes.{laid_code, lay_all, from_entered, beyond, with_obs
 -- ---- putting obstacles in
 
 -- so far the obstacles of so many vertices are put in
-pub record Putting (occupants : List Occupant) (count : ℕ) (found : List ℕ) (done : ℕ) (held : List ℕ) : Type 0 where
+pub record Putting (occupants : List ℕ) (count : ℕ) (found : List ℕ) (done : ℕ) (held : List ℕ) : Type 0 where
   pub room : count ≤ length found
   pub within : done ≤ count
   pub size : length held ≡ length found
   pub put : held ≡ with_obstacles occupants done found
 
 -- none is
-pub putting_begun : (occupants : List Occupant) (count : ℕ) (found : List ℕ) → count ≤ length found → Putting occupants count found 0 found
+pub putting_begun : (occupants : List ℕ) (count : ℕ) (found : List ℕ) → count ≤ length found → Putting occupants count found 0 found
 unfolding with_obstacles
 putting_begun occupants count found h = record { room = h; within = omega arith; size = refl; put = refl }
 
-module _ {occupants : List Occupant} {count done : ℕ} {found held : List ℕ} (so_far : Putting occupants count found done held) where
+module _ {occupants : List ℕ} {count done : ℕ} {found held : List ℕ} (so_far : Putting occupants count found done held) where
   -- a vertex with an obstacle's occupant
-  pub putting_on : done < count → is_obstacle (get_or occupants done Free) ≡ true → Putting occupants count found (done + 1) (set held done 257)
+  pub putting_on : done < count → get_or occupants done 0 ≡ 1 → Putting occupants count found (done + 1) (set held done 257)
   unfolding with_obstacles
   putting_on h e =
       record {
         room = so_far.room;
         within = omega arith;
         size = length-set held done 257 ∙ so_far.size;
-        put = rw (add-one, so_far.put, e) refl;
+        put = rw (add-one, so_far.put, eq-eqb (get_or occupants done 0) 1 e) refl;
       }
 
   -- a vertex with another occupant
-  pub putting_past : done < count → is_obstacle (get_or occupants done Free) ≡ false → Putting occupants count found (done + 1) held
+  pub putting_past : done < count → (get_or occupants done 0 ≡ 1 → ⊥) → Putting occupants count found (done + 1) held
   unfolding with_obstacles
-  putting_past h e =
+  putting_past h apart =
       record {
         room = so_far.room;
         within = omega arith;
         size = so_far.size;
-        put = rw (add-one, so_far.put, e) refl;
+        put = rw (add-one, so_far.put, ne_eqb (get_or occupants done 0) 1 apart) refl;
       }
 
   -- all are

@@ -8,9 +8,6 @@
 --     with_obstacles        obstacles put in
 use Rattle.std.specs.Prelude.{ℕ, zero, suc, ◌<◌, ◌≡◌, List, [], ◌∷◌, ◌++◌, cond, length, get_or, set, drop, eqb}
 use Rattle.job.specs.Grid.{Grid, vertices}
-use Rattle.occupants.specs.Occupants.{is_obstacle}
-use Rattle.occupants.specs.declared.occupant.Occupant.{Occupant}
-use Rattle.occupants.specs.declared.occupant.Occupant.TheVariants.{Free}
 use Rattle.rules.specs.Tracks.{Entered, outside, at, entered}
 use Rattle.rules.specs.Segments.{Direction, opposite, Place}
 use Rattle.rules.specs.Overheads.{toward, first_of}
@@ -57,6 +54,6 @@ unfoldable pub Bare : (n : ℕ) → List ℕ → Type 0
 Bare n codes = (v : ℕ) → v < n → get_or codes v 0 ≡ 0
 
 -- 257 put in where the occupant is an obstacle, in the first n
-unfoldable pub with_obstacles : (occupants : List Occupant) → (n : ℕ) → (codes : List ℕ) → List ℕ
+unfoldable pub with_obstacles : (occupants : List ℕ) → (n : ℕ) → (codes : List ℕ) → List ℕ
 with_obstacles occupants zero codes = codes
-with_obstacles occupants (suc n) codes = cond (is_obstacle (get_or occupants n Free)) (set (with_obstacles occupants n codes) n 257) (with_obstacles occupants n codes)
+with_obstacles occupants (suc n) codes = cond (eqb (get_or occupants n 0) 1) (set (with_obstacles occupants n codes) n 257) (with_obstacles occupants n codes)

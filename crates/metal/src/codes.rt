@@ -8,7 +8,7 @@ ghost use Rattle.rules.specs.Structs.{direction_of, place_of, EndOn};
 ghost use Rattle.metal.specs.Codes.{laid_code, lay_all, beyond, extended, with_obstacles};
 
 use job::grid::Grid;
-use occupants::occupant::Occupant;
+use occupants::obstacles;
 use rules::end::End;
 use rules::overhead::Extension;
 use rules::segment::{heading_of, steps_of};
@@ -65,12 +65,12 @@ pub fn lay_extension(map: &mut [u16], grid: Grid, place: Place, extension: Exten
 }
 
 // Puts the obstacles into the first vertices.
-pub fn put_obstacles(map: &mut [u16], occupants: &[Occupant; 16384], count: usize)
+pub fn put_obstacles(map: &mut [u16], occupants: &[u8; 16384], count: usize)
     requires { (count ≤ 16384) × (count ≤ length map.old) }
     ensures { map.new ≡ with_obstacles occupants.now count map.old }
 {
     for (v, &occupant) in occupants[..count].iter().enumerate() {
-        if occupant == Occupant::Obstacle {
+        if occupant == obstacles::OBSTACLE {
             map[v] = OBSTACLE;
         }
     }

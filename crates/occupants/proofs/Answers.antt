@@ -12,7 +12,6 @@ use mathlib.Core.Bool.{Bool, true, false, cond}
 use Rattle.job.specs.Reading.{Read, refused, good, ◌>>◌}
 use Rattle.occupants.specs.Structs.{many_reached}
 use Rattle.occupants.specs.Occupants.{Passed, reached, stopped, answer_of, occupants_of, with_occupants, and_then}
-use Rattle.occupants.specs.declared.occupant.Occupant.{Occupant}
 
 -- an answer with a position: reading has come there
 pub answer_at : (p : Passed) (at : ℕ) → answer_of p ≡ good at → p ≡ reached at (occupants_of p)
@@ -27,33 +26,33 @@ answer_refused (reached q m) n at e = absurd (cc)
 answer_refused (stopped k q m) n at e = cc
 
 -- from the position that was answered reading goes on
-pub then_at : (p : Passed) (next : ℕ → List Occupant → Passed) {m : List Occupant} {at : ℕ} → good at ≡ answer_of p → m ≡ occupants_of p
+pub then_at : (p : Passed) (next : ℕ → List ℕ → Passed) {m : List ℕ} {at : ℕ} → good at ≡ answer_of p → m ≡ occupants_of p
     → and_then p next ≡ next at m
 unfolding and_then occupants_of
 then_at p next {m} {at} answer occupants = rw (occupants, answer_at p at (sym answer))
 
 -- after a refusal nothing is read
-pub then_refused : (p : Passed) (next : ℕ → List Occupant → Passed) {m : List Occupant} {n at : ℕ} → refused n at ≡ answer_of p → m ≡ occupants_of p
+pub then_refused : (p : Passed) (next : ℕ → List ℕ → Passed) {m : List ℕ} {n at : ℕ} → refused n at ≡ answer_of p → m ≡ occupants_of p
     → and_then p next ≡ stopped n at m
 unfolding and_then occupants_of
 then_refused p next {m} {n} {at} answer occupants = rw (occupants, answer_refused p n at (sym answer))
 
 -- what a reader with occupants promises
-abbrev pub Says : Passed → Read ℕ → List Occupant → Type 0
+abbrev pub Says : Passed → Read ℕ → List ℕ → Type 0
 Says p r m = record { answer : (r ≡ answer_of p); occupants : (m ≡ occupants_of p) }
 
 -- reading that has come to a position answers it
-pub told_at : {p : Passed} {at : ℕ} {m : List Occupant} → p ≡ reached at m → Says p (good at) m
+pub told_at : {p : Passed} {at : ℕ} {m : List ℕ} → p ≡ reached at m → Says p (good at) m
 unfolding answer_of occupants_of
 told_at e = rw e (record { answer = refl; occupants = refl })
 
 -- reading that was stopped answers the refusal
-pub told_refused : {p : Passed} {n at : ℕ} {m : List Occupant} {r : Read ℕ} → p ≡ stopped n at m → r ≡ refused n at → Says p r m
+pub told_refused : {p : Passed} {n at : ℕ} {m : List ℕ} {r : Read ℕ} → p ≡ stopped n at m → r ≡ refused n at → Says p r m
 unfolding answer_of occupants_of
 told_refused e answer = rw e (record { answer = answer; occupants = refl })
 
 -- an answer beside occupants
-pub told : {p : Passed} {r : Read ℕ} {m : List Occupant} → p ≡ with_occupants m r → Says p r m
+pub told : {p : Passed} {r : Read ℕ} {m : List ℕ} → p ≡ with_occupants m r → Says p r m
 unfolding answer_of occupants_of with_occupants
 told {p} {r} {m} e = rw e (by r)
   where
@@ -76,8 +75,8 @@ many_refused end (good x) n p e = absurd (cc)
 -- ---- a claim on the place to which reading comes, where it is not refused
 
 pub data Ends (Claim : ℕ → Type 0) : Passed → Type 0 where
-  there : (at : ℕ) (m : List Occupant) → Claim at → Ends Claim (reached at m)
-  nowhere : (n p : ℕ) (m : List Occupant) → Ends Claim (stopped n p m)
+  there : (at : ℕ) (m : List ℕ) → Claim at → Ends Claim (reached at m)
+  nowhere : (n p : ℕ) (m : List ℕ) → Ends Claim (stopped n p m)
 
 module _ {Claim : ℕ → Type 0} where
   -- a test, with a reading either way
@@ -86,8 +85,8 @@ module _ {Claim : ℕ → Type 0} where
   ends_either false hp hq = hq
 
   -- a reading, then what comes after it
-  pub ends_then : {Claim' : ℕ → Type 0} {p : Passed} (next : ℕ → List Occupant → Passed) → Ends Claim p
-      → ((at : ℕ) (m : List Occupant) → Claim at → Ends Claim' (next at m)) → Ends Claim' (and_then p next)
+  pub ends_then : {Claim' : ℕ → Type 0} {p : Passed} (next : ℕ → List ℕ → Passed) → Ends Claim p
+      → ((at : ℕ) (m : List ℕ) → Claim at → Ends Claim' (next at m)) → Ends Claim' (and_then p next)
   unfolding and_then
   ends_then next (there at m h) go = go at m h
   ends_then next (nowhere n p m) go = nowhere n p m

@@ -15,7 +15,6 @@ use Rattle.job.specs.Reading.{Read, refused, good, ◌>>=◌, ◌>>◌, rule, re
 use Rattle.job.specs.Structs.{box_of, box_struct, box_group}
 use Rattle.occupants.specs.Structs.{many_reached}
 use Rattle.occupants.specs.Occupants.{with_occupants, boxes_from}
-use Rattle.occupants.specs.declared.occupant.Occupant.{Occupant}
 use Rattle.job.specs.declared.groups.Box.{Box as BoxStruct}
 use Rattle.occupants.proofs.Answers.{many_at, many_refused, Ends, there, nowhere}
 
@@ -120,7 +119,7 @@ module _ {bits : List ℕ} {g : Grid} {count from done at : ℕ} (so_far : Boxes
   boxes_done h = let none : count - done ≡ 0 = omega arith in so_far.same ∙ rw none (ap good (omega arith))
 
 -- boxes take 38 bits each
-pub boxes_end : (bits : List ℕ) (g : Grid) (n at : ℕ) (m : List Occupant) → Ends (λ end. end ≡ at + 38 * n) (with_occupants m (boxes_from bits g n at))
+pub boxes_end : (bits : List ℕ) (g : Grid) (n at : ℕ) (m : List ℕ) → Ends (λ end. end ≡ at + 38 * n) (with_occupants m (boxes_from bits g n at))
 unfolding boxes_from with_occupants many_reached ◌>>◌
 boxes_end bits g n at m = by (read_many 38 (read_box bits g) n at)
   where

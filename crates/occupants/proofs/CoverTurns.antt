@@ -22,8 +22,6 @@ use Rattle.job.specs.Reading.{Read, refused, good, ◌>>=◌, ◌>>◌, rule, ob
 use Rattle.job.specs.Structs.{Small, grid_of, obstacle_of, obstacle_struct, obstacle_group}
 use Rattle.occupants.specs.Structs.{obstacle_read}
 use Rattle.occupants.specs.Occupants.{reached, stopped, and_then, cover_obstacle, cover_every, RunInside, cover_read, obstacles_from}
-use Rattle.occupants.specs.declared.occupant.Occupant.{Occupant}
-use Rattle.occupants.specs.declared.occupant.Occupant.TheVariants.{Obstacle as AnObstacle}
 use Rattle.job.specs.declared.grid.Grid.{Grid as GridStruct}
 use Rattle.job.specs.declared.groups.Obstacle.{Obstacle as ObstacleStruct}
 use Rattle.job.proofs.Tests.{and_holds}
@@ -33,15 +31,15 @@ use Rattle.job.proofs.Binds.{steps, made_refused, made_good}
 -- ---- covering a run
 
 -- with vertices left, the next lies in the array, and so do the rest; covering it leaves the rest
-pub cover_turn : (stride done run at : ℕ) (m : List Occupant) → done < run → RunInside stride (run - done) at
+pub cover_turn : (stride done run at : ℕ) (m : List ℕ) → done < run → RunInside stride (run - done) at
     → (at < 16384) × RunInside stride (run - (done + 1)) (at + stride)
-    × (cover_every stride (run - done) at m ≡ cover_every stride (run - (done + 1)) (at + stride) (set m at AnObstacle))
+    × (cover_every stride (run - done) at m ≡ cover_every stride (run - (done + 1)) (at + stride) (set m at 1))
 unfolding RunInside cover_every
 cover_turn stride done run at m h =
     let more : run - done ≡ suc (run - (done + 1)) = omega arith in rw more (λ i. (i.0, i.1, refl))
 
 -- with none left, the occupants stay
-pub cover_done : (stride done run at : ℕ) (m : List Occupant) → run ≤ done → cover_every stride (run - done) at m ≡ m
+pub cover_done : (stride done run at : ℕ) (m : List ℕ) → run ≤ done → cover_every stride (run - done) at m ≡ m
 unfolding cover_every
 cover_done stride done run at m h = let none : run - done ≡ 0 = omega arith in rw none
 
@@ -157,7 +155,7 @@ read_fits bits g at e = obstacle_told bits g 0 at (read_good _ e)
 
 -- ---- reading obstacles
 
-module _ (bits : List ℕ) (g : Grid) (done count at : ℕ) (m : List Occupant) where
+module _ (bits : List ℕ) (g : Grid) (done count at : ℕ) (m : List ℕ) where
   -- with obstacles left, one that is read is covered, and the rest are read after it
   pub obstacles_turn : {x : ObstacleStruct} → done < count → good x ≡ obstacle_read (read_obstacle bits g 0 at)
       → obstacles_from bits g (count - done) at m ≡ obstacles_from bits g (count - (done + 1)) (at + 27) (cover_obstacle g (obstacle_of x) m)

@@ -23,7 +23,6 @@ use Rattle.job.specs.Job.{Obstacle, Net}
 use Rattle.job.specs.Reading.{Head, refused, good, read_tail, nets_width, obstacles_at, nets_at}
 use Rattle.job.specs.Good.{all_pins}
 use Rattle.occupants.specs.Occupants.{Bare, answer_of, occupants_of, groups_from, Occupants}
-use Rattle.occupants.specs.declared.occupant.Occupant.{Occupant}
 use Following.{Follows, follows_refused, follows_good, follows_then, follows_end, plain_follows}
 use Rest.{then_bind}
 use Obstacles.{obstacles_follow}
@@ -34,12 +33,12 @@ use Covered.{occupants_none}
 pub use Covered.{any_append}
 
 -- bare occupants tell of nothing
-pub bare_occupants : (g : Grid) {m : List Occupant} → Bare m → Occupants g [] [] m
+pub bare_occupants : (g : Grid) {m : List ℕ} → Bare m → Occupants g [] [] m
 unfolding Bare
 bare_occupants g e = rw e (occupants_none g)
 
 -- obstacles, nets and tail with occupants follow obstacles, nets and tail
-groups_follow : (bits : List ℕ) (head : Head) (m : List Occupant) → vertices head.grid ≤ 16384 → Occupants head.grid [] [] m
+groups_follow : (bits : List ℕ) (head : Head) (m : List ℕ) → vertices head.grid ≤ 16384 → Occupants head.grid [] [] m
     → Follows (λ rest. nets_at head + nets_width rest.1) (λ rest. Occupants head.grid rest.0 (all_pins rest.1))
     (groups_from bits head m) (read_rest bits head)
 unfolding groups_from read_rest nets_at
@@ -54,12 +53,12 @@ groups_follow bits head m small none =
     (λ done. refl) (λ done m''' occupants. occupants))))
 
 -- what reading refuses the code refuses, by the same number at the same place
-pub groups_refused : (bits : List ℕ) (head : Head) (m : List Occupant) (n p : ℕ) → vertices head.grid ≤ 16384 → Occupants head.grid [] [] m
+pub groups_refused : (bits : List ℕ) (head : Head) (m : List ℕ) (n p : ℕ) → vertices head.grid ≤ 16384 → Occupants head.grid [] [] m
     → read_rest bits head ≡ refused n p → answer_of (groups_from bits head m) ≡ refused n p
 groups_refused bits head m n p small none e = follows_refused n p (groups_follow bits head m small none) e
 
 -- what reading reads the code comes to the end of, with occupants of all its obstacles and pins
-pub groups_good : (bits : List ℕ) (head : Head) (m : List Occupant) (obstacles : List Obstacle) (nets : List Net) → vertices head.grid ≤ 16384
+pub groups_good : (bits : List ℕ) (head : Head) (m : List ℕ) (obstacles : List Obstacle) (nets : List Net) → vertices head.grid ≤ 16384
     → Occupants head.grid [] [] m → read_rest bits head ≡ good (obstacles, nets)
     → (answer_of (groups_from bits head m) ≡ good (nets_at head + nets_width nets))
     × Occupants head.grid obstacles (all_pins nets) (occupants_of (groups_from bits head m))

@@ -13,7 +13,6 @@ use Rattle.job.specs.Grid.{Grid}
 use Rattle.job.specs.Reading.{Read, refused, good}
 use Rattle.job.specs.Structs.{net_group}
 use Rattle.occupants.specs.Occupants.{reached, stopped, answer_of, occupants_of, with_occupants, and_then, pins_from, boxes_from, net_from, nets_from}
-use Rattle.occupants.specs.declared.occupant.Occupant.{Occupant}
 use Rattle.job.specs.declared.groups.NetHead.{NetHead}
 use Rattle.occupants.proofs.Answers.{then_at, then_refused, Ends, nowhere, ends_either, ends_then, ends_weaker, ends_at}
 use Rattle.occupants.proofs.PinTurns.{pins_end}
@@ -41,7 +40,7 @@ net_counts bytes at h e = by (whole (bits_of bytes) at 8) refl
         let same : h ≡ record { pins = suc (field (bits_of bytes) at 4); boxes = field (bits_of bytes) (at + 4) 4 } = cc in
         rw same (record { pins = four_bits bytes at; boxes = four_bits bytes (at + 4) })
 
-module _ (bytes : List ℕ) (g : Grid) (at : ℕ) (m : List Occupant) where
+module _ (bytes : List ℕ) (g : Grid) (at : ℕ) (m : List ℕ) where
   -- a net whose head is cut is refused by 2
   pub net_cut : net_group bytes at ≡ None → net_from (bits_of bytes) g at m ≡ stopped 2 at m
   unfolding net_group net_from
@@ -53,9 +52,9 @@ module _ (bytes : List ℕ) (g : Grid) (at : ℕ) (m : List Occupant) where
 
   -- the rules of a net whose head is whole
   pub record NetRules (h : NetHead) : Type 0 where
-    pub blocked : (m' : List Occupant) (n p : ℕ) → refused n p ≡ answer_of (pins_from (bits_of bytes) g h.pins (at + 8) m)
+    pub blocked : (m' : List ℕ) (n p : ℕ) → refused n p ≡ answer_of (pins_from (bits_of bytes) g h.pins (at + 8) m)
         → m' ≡ occupants_of (pins_from (bits_of bytes) g h.pins (at + 8) m) → net_from (bits_of bytes) g at m ≡ stopped n p m'
-    pub fine : (m' : List Occupant) (next : ℕ) (r : Read ℕ) → good next ≡ answer_of (pins_from (bits_of bytes) g h.pins (at + 8) m)
+    pub fine : (m' : List ℕ) (next : ℕ) (r : Read ℕ) → good next ≡ answer_of (pins_from (bits_of bytes) g h.pins (at + 8) m)
         → m' ≡ occupants_of (pins_from (bits_of bytes) g h.pins (at + 8) m) → r ≡ boxes_from (bits_of bytes) g h.boxes next
         → net_from (bits_of bytes) g at m ≡ with_occupants m' r
 
@@ -88,24 +87,24 @@ module _ (bytes : List ℕ) (g : Grid) (at : ℕ) (m : List Occupant) where
 -- ---- nets
 
 -- what is read from here on is what is read from the start
-pub record NetsLeft (bytes : List ℕ) (g : Grid) (count from : ℕ) (m₀ : List Occupant) (done at : ℕ) (m : List Occupant) : Type 0 where
+pub record NetsLeft (bytes : List ℕ) (g : Grid) (count from : ℕ) (m₀ : List ℕ) (done at : ℕ) (m : List ℕ) : Type 0 where
   pub same : nets_from (bits_of bytes) g count from m₀ ≡ nets_from (bits_of bytes) g (count - done) at m
   pub ends : at ≤ from + 882 * done
 
 -- at first all are left
-pub nets_all : (bytes : List ℕ) (g : Grid) (count from : ℕ) (m : List Occupant) → NetsLeft bytes g count from m 0 from m
+pub nets_all : (bytes : List ℕ) (g : Grid) (count from : ℕ) (m : List ℕ) → NetsLeft bytes g count from m 0 from m
 nets_all bytes g count from m = let all : count - 0 ≡ count = omega arith in record { same = rw all; ends = omega arith }
 
 -- one net, then the rest
-nets_more : (bits : List ℕ) (g : Grid) (done count at : ℕ) (m : List Occupant) → done < count
+nets_more : (bits : List ℕ) (g : Grid) (done count at : ℕ) (m : List ℕ) → done < count
     → nets_from bits g (count - done) at m ≡ and_then (net_from bits g at m) (nets_from bits g (count - (done + 1)))
 unfolding nets_from
 nets_more bits g done count at m h = let more : count - done ≡ suc (count - (done + 1)) = omega arith in rw more
 
-module _ {bytes : List ℕ} {g : Grid} {count from : ℕ} {m₀ : List Occupant} {done at : ℕ} {m : List Occupant}
+module _ {bytes : List ℕ} {g : Grid} {count from : ℕ} {m₀ : List ℕ} {done at : ℕ} {m : List ℕ}
     (so_far : NetsLeft bytes g count from m₀ done at m) where
   -- a net that was read
-  pub nets_next : {m' : List Occupant} {next : ℕ} → done < count → good next ≡ answer_of (net_from (bits_of bytes) g at m)
+  pub nets_next : {m' : List ℕ} {next : ℕ} → done < count → good next ≡ answer_of (net_from (bits_of bytes) g at m)
       → m' ≡ occupants_of (net_from (bits_of bytes) g at m) → NetsLeft bytes g count from m₀ (done + 1) next m'
   nets_next {m'} {next} h answer occupants =
       let position = ends_at next (net_end bytes g at m) (sym answer) in
@@ -118,7 +117,7 @@ module _ {bytes : List ℕ} {g : Grid} {count from : ℕ} {m₀ : List Occupant}
       }
 
   -- a net that was refused
-  pub nets_refused : {m' : List Occupant} {n p : ℕ} → done < count → refused n p ≡ answer_of (net_from (bits_of bytes) g at m)
+  pub nets_refused : {m' : List ℕ} {n p : ℕ} → done < count → refused n p ≡ answer_of (net_from (bits_of bytes) g at m)
       → m' ≡ occupants_of (net_from (bits_of bytes) g at m) → nets_from (bits_of bytes) g count from m₀ ≡ stopped n p m'
   nets_refused h answer occupants =
       so_far.same

@@ -10,17 +10,15 @@ use lib.Dec.{T}
 use Rattle.job.specs.Lists.{all}
 use Rattle.job.specs.Grid.{Grid, Vertex, vertices, vertex_number, inside, next_high, run_high, stride_of}
 use Rattle.occupants.specs.Occupants.{cover_all, cover_every, RunInside}
-use Rattle.occupants.specs.declared.occupant.Occupant.{Occupant}
-use Rattle.occupants.specs.declared.occupant.Occupant.TheVariants.{Obstacle as AnObstacle}
 use Rattle.job.proofs.Tests.{and_holds}
 use Rattle.job.proofs.Grids.{next_layer, number_next, number_below}
 
 -- covering a run is covering a stride apart
-pub cover_every_lem : (g : Grid) (v : Vertex) (n : ℕ) (m : List Occupant)
+pub cover_every_lem : (g : Grid) (v : Vertex) (n : ℕ) (m : List ℕ)
     → cover_all g (run_high g v n) m ≡ cover_every (stride_of g v.layer) n (vertex_number g v) m
 unfolding cover_all cover_every run_high
 cover_every_lem g v zero m = refl
-cover_every_lem g v (suc n) m = rw (number_next g v, ap (stride_of g) (next_layer g v)) at (cover_every_lem g (next_high g v) n (set m (vertex_number g v) AnObstacle))
+cover_every_lem g v (suc n) m = rw (number_next g v, ap (stride_of g) (next_layer g v)) at (cover_every_lem g (next_high g v) n (set m (vertex_number g v) 1))
 
 -- the vertices of a run inside lie in the array
 pub run_inside : (g : Grid) (v : Vertex) (n : ℕ) → vertices g ≤ 16384 → T (all (inside g) (run_high g v n))

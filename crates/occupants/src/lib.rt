@@ -3,4 +3,3 @@
 
 pub mod nets;
 pub mod obstacles;
-pub mod occupant;

@@ -7,7 +7,7 @@ ghost use Rattle.job.specs.Structs.{Sized, grid_of, box_of};
 ghost use Rattle.occupants.specs.Structs.{many_reached};
 ghost use Rattle.occupants.specs.Occupants.{answer_of, occupants_of, pin_from, pins_from, boxes_from, net_from, nets_from};
 
-use crate::occupant::Occupant;
+use crate::obstacles::{OBSTACLE, PIN};
 use job::grid::Grid;
 use job::groups::{Box, Span, box_group, net_group, vertex_group};
 use job::refusal::{Refusal, Refused};
@@ -17,23 +17,29 @@ pub fn read_pin(
     s: &[u8],
     grid: Grid,
     at: usize,
-    occupants: &mut [Occupant; 16384],
+    occupants: &mut [u8; 16384],
 ) -> Result<usize, Refused>
     requires { (Sized grid) × (at < 2 ^ 32) }
     ensures answer { read_of result ≡ answer_of (pin_from (bits_of s.now) (grid_of grid) at occupants.old) }
     ensures occupants { occupants.new ≡ occupants_of (pin_from (bits_of s.now) (grid_of grid) at occupants.old) }
 {
-    let pin = vertex_group(s, at).ok_or(Refusal::Cut.at(at))?;
+    let Some(pin) = vertex_group(s, at) else {
+        return Err(Refusal::Cut.at(at));
+    };
     if !grid.inside(pin) {
         return Err(Refusal::Pin.at(at));
     }
     let vertex = grid.number(pin);
-    match occupants[vertex] {
-        Occupant::Obstacle => return Err(Refusal::Pin.at(at)),
-        Occupant::Pin => return Err(Refusal::EarlierPin.at(at)),
-        Occupant::Free => {}
+    let occupant = occupants[vertex];
+    let blocked = OBSTACLE;
+    if occupant == blocked {
+        return Err(Refusal::Pin.at(at));
     }
-    occupants[vertex] = Occupant::Pin;
+    let earlier = PIN;
+    if occupant == earlier {
+        return Err(Refusal::EarlierPin.at(at));
+    }
+    occupants[vertex] = PIN;
     Ok(at + 19)
 }
 
@@ -42,7 +48,7 @@ pub fn read_pins(
     grid: Grid,
     count: usize,
     from: usize,
-    occupants: &mut [Occupant; 16384],
+    occupants: &mut [u8; 16384],
 ) -> Result<usize, Refused>
     requires { (Sized grid) × (count ≤ 16) × (from < 2 ^ 31) }
     ensures answer { read_of result ≡ answer_of (pins_from (bits_of s.now) (grid_of grid) count from occupants.old) }
@@ -81,7 +87,9 @@ pub fn read_box(s: &[u8], grid: Grid, at: usize) -> Result<usize, Refused>
     requires { at < 2 ^ 32 }
     ensures { read_of result ≡ many_reached (at + 38) (read_box (bits_of s.now) (grid_of grid) 0 at) }
 {
-    let b = box_group(s, at).ok_or(Refusal::Cut.at(at))?;
+    let Some(b) = box_group(s, at) else {
+        return Err(Refusal::Cut.at(at));
+    };
     if !good_box(grid, b) {
         return Err(Refusal::Box.at(at));
     }
@@ -103,13 +111,15 @@ pub fn read_net(
     s: &[u8],
     grid: Grid,
     at: usize,
-    occupants: &mut [Occupant; 16384],
+    occupants: &mut [u8; 16384],
 ) -> Result<usize, Refused>
     requires { (Sized grid) × (at < 2 ^ 30) }
     ensures answer { read_of result ≡ answer_of (net_from (bits_of s.now) (grid_of grid) at occupants.old) }
     ensures occupants { occupants.new ≡ occupants_of (net_from (bits_of s.now) (grid_of grid) at occupants.old) }
 {
-    let net = net_group(s, at).ok_or(Refusal::Cut.at(at))?;
+    let Some(net) = net_group(s, at) else {
+        return Err(Refusal::Cut.at(at));
+    };
     let boxes_at = read_pins(s, grid, net.pins, at + 8, occupants)?;
     read_boxes(s, grid, net.boxes, boxes_at)
 }
@@ -119,7 +129,7 @@ pub fn read_nets(
     grid: Grid,
     count: usize,
     from: usize,
-    occupants: &mut [Occupant; 16384],
+    occupants: &mut [u8; 16384],
 ) -> Result<usize, Refused>
     requires { (Sized grid) × (count < 2 ^ 8) × (from < 2 ^ 24) }
     ensures answer { read_of result ≡ answer_of (nets_from (bits_of s.now) (grid_of grid) count from occupants.old) }

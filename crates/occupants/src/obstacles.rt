@@ -9,10 +9,14 @@ ghost use Rattle.job.specs.Structs.{Small, Sized, grid_of, obstacle_of};
 ghost use Rattle.occupants.specs.Structs.{obstacle_read};
 ghost use Rattle.occupants.specs.Occupants.{RunInside, cover_every, cover_obstacle, obstacles_from, answer_of, occupants_of};
 
-use crate::occupant::Occupant;
 use job::grid::Grid;
 use job::groups::{Obstacle, obstacle_group};
 use job::refusal::{Refusal, Refused};
+
+// The occupant of a vertex: 0 where it is free. Numbers, since any bytes may be lent.
+pub const OBSTACLE: u8 = 1;
+
+pub const PIN: u8 = 2;
 
 // Whether all of an obstacle is inside.
 pub fn obstacle_inside(grid: Grid, obstacle: Obstacle) -> bool
@@ -34,7 +38,9 @@ pub fn read_obstacle(s: &[u8], grid: Grid, at: usize) -> Result<Obstacle, Refuse
     requires { (Small grid) × (at < 2 ^ 32) }
     ensures { read_of result ≡ obstacle_read (read_obstacle (bits_of s.now) (grid_of grid) 0 at) }
 {
-    let obstacle = obstacle_group(s, at).ok_or(Refusal::Cut.at(at))?;
+    let Some(obstacle) = obstacle_group(s, at) else {
+        return Err(Refusal::Cut.at(at));
+    };
     if !obstacle_inside(grid, obstacle) {
         return Err(Refusal::Obstacle.at(at));
     }
@@ -42,18 +48,18 @@ pub fn read_obstacle(s: &[u8], grid: Grid, at: usize) -> Result<Obstacle, Refuse
 }
 
 // An obstacle covers every stride-th vertex from the first on.
-pub fn cover_run(occupants: &mut [Occupant; 16384], first: usize, stride: usize, run: usize)
+pub fn cover_run(occupants: &mut [u8; 16384], first: usize, stride: usize, run: usize)
     requires { (stride ≤ 256) × (RunInside stride run first) }
     ensures { occupants.new ≡ cover_every stride run first occupants.old }
 {
     let mut at = first;
     for _covered in 0..run {
-        occupants[at] = Occupant::Obstacle;
+        occupants[at] = OBSTACLE;
         at += stride;
     }
 }
 
-pub fn cover_obstacle(occupants: &mut [Occupant; 16384], grid: Grid, obstacle: Obstacle)
+pub fn cover_obstacle(occupants: &mut [u8; 16384], grid: Grid, obstacle: Obstacle)
     requires { (Sized grid) × (1 ≤ obstacle.run) × (T (all (inside (grid_of grid)) (covered (grid_of grid) (obstacle_of obstacle)))) }
     ensures { occupants.new ≡ cover_obstacle (grid_of grid) (obstacle_of obstacle) occupants.old }
 {
@@ -71,7 +77,7 @@ pub fn read_obstacles(
     grid: Grid,
     count: usize,
     from: usize,
-    occupants: &mut [Occupant; 16384],
+    occupants: &mut [u8; 16384],
 ) -> Result<usize, Refused>
     requires { (Sized grid) × (count < 2 ^ 16) × (from < 2 ^ 16) }
     ensures answer { read_of result ≡ answer_of (obstacles_from (bits_of s.now) (grid_of grid) count from occupants.old) }

@@ -20,7 +20,6 @@ use Rattle.job.specs.Structs.{grid_of, head_of}
 use Rattle.job.specs.Structs.{layers_of}
 use Rattle.reader.specs.Structs.{layers_read, job_end, job_read}
 use Rattle.occupants.specs.Occupants.{Occupants, answer_of, occupants_of, groups_from}
-use Rattle.occupants.specs.declared.occupant.Occupant.{Occupant}
 use Rattle.job.specs.declared.groups.Head.{Head as HeadStruct}
 use Rattle.job.specs.declared.groups.Layer.{Layer as LayerStruct}
 use Rattle.reader.specs.declared.whole.JobRead.{JobRead}
@@ -28,12 +27,12 @@ use Rattle.job.proofs.Binds.{good_good, then_good, bind_good, made_refused, made
 use Rattle.occupants.proofs.Covering.{read_rest, rest_of_job, groups_refused, groups_good, many_length, nets_length}
 
 -- x is what reading answers, and after a good job the occupants tell its obstacles and pins
-abbrev pub Told : Read Job → Read JobRead → List Occupant → Type 0
+abbrev pub Told : Read Job → Read JobRead → List ℕ → Type 0
 Told r x occupied =
     record { read : (x ≡ job_read r); occupants : (j : Job) → r ≡ good j → Occupants j.grid j.obstacles (all_pins j.nets) occupied }
 
 -- after a refusal the occupants tell nothing
-pub told_refused_job : {r : Read Job} {x : Read JobRead} {occupants : List Occupant} {n p : ℕ} → r ≡ refused n p → x ≡ refused n p → Told r x occupants
+pub told_refused_job : {r : Read Job} {x : Read JobRead} {occupants : List ℕ} {n p : ℕ} → r ≡ refused n p → x ≡ refused n p → Told r x occupants
 unfolding job_read ◌>>=◌
 told_refused_job e same = rw (e, same) (record { read = refl; occupants = λ j h. absurd (cc) })
 
@@ -69,7 +68,7 @@ module _ (bits : List ℕ) (h : HeadStruct) where
   unfolding layers_read ◌>>=◌
   lines_refused_job lines = rw (rest_of_job bits (head_of h), made_refused layers_of _ lines)
 
-  module _ {x : List LayerStruct} (lines : good x ≡ layers_read (read_many 40 (read_layer bits) h.grid.layers 80)) (m : List Occupant)
+  module _ {x : List LayerStruct} (lines : good x ≡ layers_read (read_many 40 (read_layer bits) h.grid.layers 80)) (m : List ℕ)
       (small : vertices (grid_of h.grid) ≤ 16384) (bare : Occupants (grid_of h.grid) [] [] m) where
     -- the lines, and then the rest
     rest_job : (r : Read (List Obstacle × List Net)) → read_rest bits (head_of h) ≡ r

@@ -16,7 +16,6 @@ use Rattle.job.specs.Structs.{Small, head_struct}
 use Rattle.job.specs.Structs.{layers_of}
 use Rattle.reader.specs.Structs.{largest_in, job_end, job_read}
 use Rattle.occupants.specs.Occupants.{Bare}
-use Rattle.occupants.specs.declared.occupant.Occupant.TheVariants.{Free}
 use Rattle.reader.specs.declared.whole.JobRead.{JobRead}
 use Rattle.job.proofs.Binds.{made_refused, made_good}
 use Rattle.job.proofs.TwoWay.{rules_hold}
@@ -63,7 +62,7 @@ module _ (bytes : List ℕ) where
   read_refused e = made_refused handed _ e
 
 -- the occupants are bare where every vertex is free
-pub free_bare : Bare (replicate 16384 Free)
+pub free_bare : Bare (replicate 16384 0)
 unfolding Bare
 free_bare = refl
 

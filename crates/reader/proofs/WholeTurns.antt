@@ -12,18 +12,17 @@ use Rattle.job.specs.Job.{Obstacle}
 use Rattle.job.specs.Reading.{Read, refused, good, Head, obstacles_at, read_obstacle, read_tail}
 use Rattle.occupants.specs.Structs.{many_reached}
 use Rattle.occupants.specs.Occupants.{stopped, answer_of, occupants_of, with_occupants, cover_read, obstacles_from, nets_from, groups_from}
-use Rattle.occupants.specs.declared.occupant.Occupant.{Occupant}
 use Rattle.occupants.proofs.Answers.{then_at, then_refused, Ends, there, nowhere, ends_then, ends_weaker}
 use Rattle.occupants.proofs.NetTurns.{net_end}
 
 -- an obstacle takes 27 bits
-obstacle_end : (g : Grid) (at : ℕ) (m : List Occupant) (r : Read Obstacle) → Ends (λ end. end ≡ at + 27) (cover_read g at m r)
+obstacle_end : (g : Grid) (at : ℕ) (m : List ℕ) (r : Read Obstacle) → Ends (λ end. end ≡ at + 27) (cover_read g at m r)
 unfolding cover_read
 obstacle_end g at m (refused n p) = nowhere n p m
 obstacle_end g at m (good o) = there (at + 27) _ (omega arith)
 
 -- obstacles take 27 bits each
-pub obstacles_end : (bits : List ℕ) (g : Grid) (n at : ℕ) (m : List Occupant) → Ends (λ end. end ≡ at + 27 * n) (obstacles_from bits g n at m)
+pub obstacles_end : (bits : List ℕ) (g : Grid) (n at : ℕ) (m : List ℕ) → Ends (λ end. end ≡ at + 27 * n) (obstacles_from bits g n at m)
 unfolding obstacles_from
 obstacles_end bits g zero at m = there at m (omega arith)
 obstacles_end bits g (suc n) at m =
@@ -31,7 +30,7 @@ obstacles_end bits g (suc n) at m =
     (λ end m' e. ends_weaker (obstacles_end bits g n end m') (λ last h. omega arith))
 
 -- nets take at most 882 bits each
-pub nets_end : (bytes : List ℕ) (g : Grid) (n at : ℕ) (m : List Occupant) → Ends (λ end. end ≤ at + 882 * n) (nets_from (bits_of bytes) g n at m)
+pub nets_end : (bytes : List ℕ) (g : Grid) (n at : ℕ) (m : List ℕ) → Ends (λ end. end ≤ at + 882 * n) (nets_from (bits_of bytes) g n at m)
 unfolding nets_from
 nets_end bytes g zero at m = there at m (omega arith)
 nets_end bytes g (suc n) at m =
@@ -39,7 +38,7 @@ nets_end bytes g (suc n) at m =
     (λ end m' e. ends_weaker (nets_end bytes g n end m') (λ last h. omega arith))
 
 -- m₁ are the occupants after the obstacles, m₂ those after the nets
-module _ (bits : List ℕ) (head : Head) (m : List Occupant) {m₁ : List Occupant}
+module _ (bits : List ℕ) (head : Head) (m : List ℕ) {m₁ : List ℕ}
     (occupants : m₁ ≡ occupants_of (obstacles_from bits head.grid head.obstacles (obstacles_at head) m)) where
   -- the obstacles are refused
   pub groups_blocked : {n p : ℕ} → refused n p ≡ answer_of (obstacles_from bits head.grid head.obstacles (obstacles_at head) m)
@@ -47,7 +46,7 @@ module _ (bits : List ℕ) (head : Head) (m : List Occupant) {m₁ : List Occupa
   unfolding groups_from
   groups_blocked answer = then_refused _ _ answer occupants
 
-  module _ {nets_at : ℕ} (at : good nets_at ≡ answer_of (obstacles_from bits head.grid head.obstacles (obstacles_at head) m)) {m₂ : List Occupant}
+  module _ {nets_at : ℕ} (at : good nets_at ≡ answer_of (obstacles_from bits head.grid head.obstacles (obstacles_at head) m)) {m₂ : List ℕ}
       (occupants' : m₂ ≡ occupants_of (nets_from bits head.grid head.nets nets_at m₁)) where
     -- the nets are refused
     pub groups_stopped : {n p : ℕ} → refused n p ≡ answer_of (nets_from bits head.grid head.nets nets_at m₁) → groups_from bits head m ≡ stopped n p m₂

@@ -16,7 +16,9 @@ const MOST_VERTICES: usize = 16384;
 pub fn read_head(s: &[u8]) -> Result<Head, Refused>
     ensures { read_of result ≡ head_read (read_head (bits_of s.now)) }
 {
-    let (edition, head) = head_group(s).ok_or(Refusal::Cut.at(0))?;
+    let Some((edition, head)) = head_group(s) else {
+        return Err(Refusal::Cut.at(0));
+    };
     if edition != EDITION {
         return Err(Refusal::Edition.at(0));
     }

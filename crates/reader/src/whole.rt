@@ -16,7 +16,6 @@ use job::groups::{Head, Layer};
 use job::refusal::{Refusal, Refused};
 use occupants::nets::read_nets;
 use occupants::obstacles::read_obstacles;
-use occupants::occupant::Occupant;
 
 // A job has no more bytes.
 const MOST_BYTES: usize = 262144;
@@ -30,11 +29,7 @@ pub struct JobRead {
 }
 
 // Obstacles, nets and tail.
-pub fn read_groups(
-    s: &[u8],
-    head: Head,
-    occupants: &mut [Occupant; 16384],
-) -> Result<usize, Refused>
+pub fn read_groups(s: &[u8], head: Head, occupants: &mut [u8; 16384]) -> Result<usize, Refused>
     requires { (length s.now ≤ 262144) × (Sized head.grid) × (head.nets < 2 ^ 8) × (head.obstacles < 2 ^ 16) }
     ensures answer { read_of result ≡ answer_of (groups_from (bits_of s.now) (head_of head) occupants.old) }
     ensures occupants { occupants.new ≡ occupants_of (groups_from (bits_of s.now) (head_of head) occupants.old) }
@@ -49,7 +44,7 @@ pub fn read_groups(
 pub fn read_after_head(
     s: &[u8],
     head: Head,
-    occupants: &mut [Occupant; 16384],
+    occupants: &mut [u8; 16384],
 ) -> Result<JobRead, Refused>
     requires s_len_bound { (length s.now ≤ 262144) × (Sized head.grid) × (head.nets < 2 ^ 8) × (head.obstacles < 2 ^ 16) }
     requires bare { Bare occupants.old }
@@ -63,7 +58,7 @@ pub fn read_after_head(
 
 // The job that the bytes hold, or the first rule that they break. The occupants are lent bare, and after a
 // good job they tell obstacles and pins.
-pub fn read_job(s: &[u8], occupants: &mut [Occupant; 16384]) -> Result<JobRead, Refused>
+pub fn read_job(s: &[u8], occupants: &mut [u8; 16384]) -> Result<JobRead, Refused>
     requires { Bare occupants.old }
     ensures read { read_of result ≡ job_read (read_job s.now) }
     ensures occupants { (j : Job) → read_job s.now ≡ good j → Occupants j.grid j.obstacles (all_pins j.nets) occupants.new }

@@ -14,7 +14,6 @@ use Rattle.job.specs.Job.{Net, Job}
 use Rattle.job.specs.Reading.{Read, refused, good, ◌>>=◌, read_job}
 use Rattle.job.specs.Structs.{grid_of}
 use Rattle.job.specs.declared.refusal.Refused.{Refused}
-use Rattle.occupants.specs.declared.occupant.Occupant.{Occupant}
 use Rattle.reader.specs.Loading.{net_loaded, pins_loaded, boxes_loaded}
 use Rattle.reader.specs.declared.load.NetLoaded.{NetLoaded}
 use Rattle.rules.specs.Views.{View, view_of}
@@ -98,7 +97,7 @@ unfolding ◌>>=◌ with_entries
 none_before (refused n p) = refl
 none_before (good all) = refl
 
-module _ (bytes : List ℕ) (tech : TechStruct) (occupants : List Occupant) (found B : List ℕ) (below : AllBelow 2 B) (counts₀ : List ℕ) where
+module _ (bytes : List ℕ) (tech : TechStruct) (occupants : List ℕ) (found B : List ℕ) (below : AllBelow 2 B) (counts₀ : List ℕ) where
   -- so many nets are left: the rest from here gives the whole
   pub record Netting (codes counts pins boxes : List ℕ) (position at : ℕ) (totals : TotalsStruct) (net left : ℕ) : Type 0 where
     pub count : ℕ

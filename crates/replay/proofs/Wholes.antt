@@ -17,7 +17,6 @@ use Rattle.job.specs.Structs.{grid_of}
 use Rattle.job.specs.declared.refusal.Refusal.TheVariants.{PlanCut}
 use Rattle.job.specs.declared.refusal.Refused.{Refused}
 use Rattle.job.proofs.Binds.{steps}
-use Rattle.occupants.specs.declared.occupant.Occupant.{Occupant}
 use Rattle.rules.specs.Standings.{metal_at_first}
 use Rattle.rules.specs.Routings.{no_totals, Routed}
 use Rattle.rules.specs.declared.price.Tech.{Tech as TechStruct}
@@ -106,7 +105,7 @@ plan_counted j plan before after h = plan_sums j (bits_of plan) _ before after h
 
 -- ---- from the job that was read to the map at the end
 
-module _ (bytes : List ℕ) (tech : TechStruct) (occupants : List Occupant) (found : List ℕ) (count start : ℕ) (held : PlanHeld bytes tech occupants found count start)
+module _ (bytes : List ℕ) (tech : TechStruct) (occupants : List ℕ) (found : List ℕ) (count start : ℕ) (held : PlanHeld bytes tech occupants found count start)
     {bare laid : List ℕ} (zeros : bare ≡ zeroed (vertices (grid_of tech.grid)) found) (kept : Beyond (vertices (grid_of tech.grid)) laid bare)
     (plan : List ℕ) (read : Result Ended Refused) (replayed : Result TotalsStruct Refused) {after map : List ℕ}
     (is : (j : Job) → read_job bytes ≡ good j → IsNets (grid_of tech.grid) read (read_nets (bits_of plan) j 0 j.nets (metal_at_first j) no_totals 0) after)
@@ -136,6 +135,6 @@ module _ (bytes : List ℕ) (tech : TechStruct) (occupants : List Occupant) (fou
           ∙ sym (ap (λ (x : Read Routed). replayed_map j x found) e)
 
 -- the map finished by a count of the vertices
-pub count_finished : (occupants : List Occupant) (r : Result TotalsStruct Refused) (after : List ℕ) {n v : ℕ} {map : List ℕ} → n ≡ v → map ≡ finished_map occupants n r after
+pub count_finished : (occupants : List ℕ) (r : Result TotalsStruct Refused) (after : List ℕ) {n v : ℕ} {map : List ℕ} → n ≡ v → map ≡ finished_map occupants n r after
     → map ≡ finished_map occupants v r after
 count_finished occupants r after {map = map} e h = subst (λ (k : ℕ). map ≡ finished_map occupants k r after) e h

@@ -6,7 +6,6 @@ use Rattle.job.specs.Job.{Job}
 use Rattle.job.specs.Reading.{Read, refused, good, ◌>>=◌, ◌>>◌, rule}
 use Rattle.job.specs.Refusals.{number_of}
 use Rattle.job.specs.declared.refusal.Refused.{Refused}
-use Rattle.occupants.specs.declared.occupant.Occupant.{Occupant}
 use Rattle.plan.specs.Reading.{group, Progress}
 use Rattle.metal.specs.Codes.{Codes, with_obstacles}
 use Rattle.job.specs.Slices.{zeroed}
@@ -149,6 +148,6 @@ abbrev pub IsEnd : (bits : List ℕ) → Result EndedStruct Refused → Result T
 IsEnd bits read r = (g : Grid) (x : Read Progress) (codes : List ℕ) → IsNets g read x codes → IsReplayed r (plan_from bits x)
 
 -- the map at the end
-unfoldable pub finished_map : (occupants : List Occupant) → (count : ℕ) → Result TotalsStruct Refused → (map : List ℕ) → List ℕ
+unfoldable pub finished_map : {E : Type 0} → (occupants : List ℕ) → (count : ℕ) → Result TotalsStruct E → (map : List ℕ) → List ℕ
 finished_map occupants count (Err e) map = zeroed count map
 finished_map occupants count (Ok totals) map = with_obstacles occupants count map

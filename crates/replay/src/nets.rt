@@ -18,7 +18,6 @@ ghost use Rattle.replay.specs.Structs.{IsNet, CountedNet, NetFits, IsNets, Count
 
 use crate::net::{Ended, read_records};
 use job::refusal::Refused;
-use occupants::occupant::Occupant;
 use reader::load::load_net;
 use rules::list::prices_of;
 use rules::price::{Prices, Tech};
@@ -64,7 +63,7 @@ pub fn read_net(
 pub fn read_nets(
     s: &[u8],
     tech: Tech,
-    occupants: &[Occupant; 16384],
+    occupants: &[u8; 16384],
     map: &mut [u16],
     counts: &mut [usize; 48],
     plan: &[u8],

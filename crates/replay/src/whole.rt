@@ -16,7 +16,6 @@ use job::refusal::{Refusal, Refused};
 use metal::codes::put_obstacles;
 use metal::pins::lay_all_pins;
 use metal::zeros::zero_codes;
-use occupants::occupant::Occupant;
 use rules::price::Tech;
 use rules::totals::Totals;
 
@@ -32,12 +31,12 @@ pub fn end_plan(plan: &[u8], read: Result<Ended, Refused>) -> Result<Totals, Ref
     Ok(ended.totals)
 }
 
-// Obstacles are put into the map of a good plan; after a refusal it is zero.
-pub fn finish_map(
+// Obstacles are put into the map of a good plan; after a refusal, whichever, it is zero.
+pub fn finish_map<E: Copy>(
     map: &mut [u16],
-    occupants: &[Occupant; 16384],
+    occupants: &[u8; 16384],
     count: usize,
-    replayed: Result<Totals, Refused>,
+    replayed: Result<Totals, E>,
 )
     requires { (count ≤ 16384) × (count ≤ length map.old) }
     ensures { map.new ≡ finished_map occupants.now count replayed map.old }
@@ -52,7 +51,7 @@ pub fn finish_map(
 pub fn replay_plan(
     s: &[u8],
     tech: Tech,
-    occupants: &[Occupant; 16384],
+    occupants: &[u8; 16384],
     map: &mut [u16],
     counts: &mut [usize; 48],
     plan: &[u8],

@@ -33,7 +33,6 @@ use Rattle.reader.specs.declared.whole.JobRead.{JobRead}
 use Rattle.reader.proofs.Lines.{largest_lines}
 use Rattle.reader.proofs.Outcome.{ReadGood, least_below}
 use Rattle.occupants.specs.Occupants.{Occupants}
-use Rattle.occupants.specs.declared.occupant.Occupant.{Occupant}
 use Rattle.rules.specs.Prices.{Tech, tech_of}
 use Rattle.rules.specs.Structs.{line_at, line_record, lines_from, tech_by}
 use Rattle.rules.proofs.Techs.{good_tech}
@@ -123,7 +122,7 @@ module _ (head : HeadStruct) (layers : List LayerStruct) (holds : HeadHolds head
       lines = ap (lines_from (layers_of holds.job.lines) 0) (sym holds.rules.lines) ∙ lines_from_lem [] holds.job.lines
 
   -- what is held is the job's
-  held_is : (bytes : List ℕ) (occupants : List Occupant) → read_job bytes ≡ good holds.job
+  held_is : (bytes : List ℕ) (occupants : List ℕ) → read_job bytes ≡ good holds.job
       → Occupants holds.job.grid holds.job.obstacles (all_pins holds.job.nets) occupants → JobHeld bytes occupants (held_of head layers)
   unfolding held_of work_need nets_at obstacles_at tech_of
   held_is bytes occupants read occupied =
@@ -144,7 +143,7 @@ module _ (head : HeadStruct) (layers : List LayerStruct) (holds : HeadHolds head
       }
 
 -- and so for a job that was read
-pub job_held : {bytes : List ℕ} {occupants : List Occupant} {x : JobRead} {held : Held} (read : ReadGood bytes x)
+pub job_held : {bytes : List ℕ} {occupants : List ℕ} {x : JobRead} {held : Held} (read : ReadGood bytes x)
     → ((j : Job) → read_job bytes ≡ good j → Occupants j.grid j.obstacles (all_pins j.nets) occupants)
     → held ≡ held_of x.head x.layers → JobHeld bytes occupants held
 job_held {bytes} {occupants} {x} read occupied is =
@@ -198,7 +197,7 @@ pub has_room : (bytes map work : List ℕ) {j : Job} → read_job bytes ≡ good
 unfolding read_with_room room_for
 has_room bytes map work read long longer = simp (steps, tests) (_, read, ((long, longer), refl))
 
-module _ {bytes : List ℕ} {occupants : List Occupant} {held : Held} (h : JobHeld bytes occupants held) (map work : List ℕ) {x : Read Unit}
+module _ {bytes : List ℕ} {occupants : List ℕ} {held : Held} (h : JobHeld bytes occupants held) (map work : List ℕ) {x : Read Unit}
     (answer : x ≡ room_for held.vertices held.work map work) where
   -- the answer is the job's
   answer_is : x ≡ room_for (vertices h.job.grid) (work_need h.job) map work
@@ -218,7 +217,7 @@ module _ {bytes : List ℕ} {occupants : List Occupant} {held : Held} (h : JobHe
       record { read = rw (h.read, both) refl; vertices = long; need = longer }
 
 -- what reading a plan asks, and routing
-pub plan_asked : {bytes : List ℕ} {occupants : List Occupant} {held : Held} (h : JobHeld bytes occupants held) {map : List ℕ} → vertices h.job.grid ≤ length map
+pub plan_asked : {bytes : List ℕ} {occupants : List ℕ} {held : Held} (h : JobHeld bytes occupants held) {map : List ℕ} → vertices h.job.grid ≤ length map
     → PlanHeld bytes held.tech occupants map held.nets held.from
 plan_asked h room =
     record {

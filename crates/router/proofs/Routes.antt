@@ -18,7 +18,6 @@ use Rattle.bits.proofs.Laws.{length-pack_bits, length-put_bits, put_packed}
 use Rattle.job.specs.Grid.{vertices}
 use Rattle.job.specs.Job.{Job, largest_min_length}
 use Rattle.job.specs.Reading.{good}
-use Rattle.occupants.specs.declared.occupant.Occupant.{Occupant}
 use Rattle.rules.specs.Routings.{routing, Totals}
 use Rattle.rules.specs.Joins.{places}
 use Rattle.rules.specs.Maps.{map_of}
@@ -43,7 +42,7 @@ use Rattle.router.proofs.Holding.{Roomy, plan_asked}
 use Rattle.router.proofs.Ends.{routes_short, routes_whole}
 
 -- what routing asks, with the need of work zero
-pub route_asked : {bytes : List ℕ} {occupants : List Occupant} {held : Held} (h : JobHeld bytes occupants held) (map work : List ℕ) {workNow : List ℕ}
+pub route_asked : {bytes : List ℕ} {occupants : List ℕ} {held : Held} (h : JobHeld bytes occupants held) (map work : List ℕ) {workNow : List ℕ}
     → Roomy bytes h.job map work → workNow ≡ zeroed held.work work
     → PlanHeld bytes held.tech occupants map held.nets held.from × Blank (tech_by held.tech) workNow
 unfolding Bare places tech_of work_need

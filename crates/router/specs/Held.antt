@@ -16,7 +16,6 @@ use Rattle.job.specs.declared.groups.Head.{Head as HeadStruct}
 use Rattle.job.specs.declared.groups.Layer.{Layer as LayerStruct}
 use Rattle.reader.specs.Structs.{largest_in}
 use Rattle.occupants.specs.Occupants.{Occupants}
-use Rattle.occupants.specs.declared.occupant.Occupant.{Occupant}
 use Rattle.rules.specs.Prices.{tech_of}
 use Rattle.rules.specs.Structs.{tech_by, TechFits}
 use Rattle.plan.specs.Reading.{read_plan}
@@ -52,7 +51,7 @@ held_of head layers =
 
 -- the bytes hold a good job, these are its occupants, and the code holds its layers, its needs, and where its
 -- nets stand
-pub record JobHeld (bytes : List ℕ) (occupants : List Occupant) (held : Held) : Type 0 where
+pub record JobHeld (bytes : List ℕ) (occupants : List ℕ) (held : Held) : Type 0 where
   pub job : Job
   pub read : read_job bytes ≡ good job
   pub occupied : Occupants job.grid job.obstacles (all_pins job.nets) occupants
@@ -64,7 +63,7 @@ pub record JobHeld (bytes : List ℕ) (occupants : List Occupant) (held : Held) 
   pub from : nets_at (job_head job) ≡ held.from
 
 -- the bytes hold a good job, and this is held of it; or they are refused
-abbrev pub IsHeld : (bytes : List ℕ) (occupants : List Occupant) → Result Held Refused → Type 0
+abbrev pub IsHeld : (bytes : List ℕ) (occupants : List ℕ) → Result Held Refused → Type 0
 IsHeld bytes occupants (Ok held) = JobHeld bytes occupants held
 IsHeld bytes occupants (Err r) = read_job bytes ≡ refused (number_of r.refusal) r.place
 

@@ -7,7 +7,6 @@ ghost use Rattle.router.specs.Held.{HeadHolds, IsHeld, held_of};
 
 use job::groups::{Head, Layer};
 use job::refusal::{Refusal, Refused};
-use occupants::occupant::Occupant;
 use reader::layers::largest_least;
 use reader::whole::read_job;
 use rules::price::Tech;
@@ -46,7 +45,7 @@ fn held_of(head: Head, layers: [Layer; 8]) -> Held
 }
 
 // What is held of the job that the bytes hold, or the first rule that they break.
-pub(crate) fn hold_job(bytes: &[u8], occupants: &mut [Occupant; 16384]) -> Result<Held, Refused>
+pub(crate) fn hold_job(bytes: &[u8], occupants: &mut [u8; 16384]) -> Result<Held, Refused>
     requires { Bare occupants.old }
     ensures { IsHeld bytes.now occupants.new result }
 {

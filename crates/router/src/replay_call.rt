@@ -7,7 +7,6 @@ ghost use Rattle.router.specs.Held.{replay_answer, replay_leaves, CountsHeld};
 use crate::held::{hold_job, room_for};
 use job::refusal::Refused;
 use metal::zeros::zero_words;
-use occupants::occupant::Occupant;
 use replay::whole::replay_plan;
 use rules::totals::Totals;
 
@@ -61,7 +60,7 @@ pub(crate) fn replay_counted(
         ≡ replay_of bytes.now plan.now map.old work.old }
     ensures counts { CountsHeld bytes.now plan.now map.old work.old counts.old counts.new }
 {
-    let mut occupants = [Occupant::Free; 16384];
+    let mut occupants = [0; 16384];
     let held = hold_job(bytes, &mut occupants)?;
     room_for(held.vertices, held.work, map, work)?;
     zero_words(work, held.work);

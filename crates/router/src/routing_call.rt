@@ -11,7 +11,6 @@ ghost use Rattle.router.specs.Routing.{refused_routing, total_result, routing_of
 use crate::held::{hold_job, room_for};
 use job::refusal::{Refusal, Refused};
 use metal::zeros::{zero_bytes, zero_codes, zero_words};
-use occupants::occupant::Occupant;
 use routing::whole::route_plan;
 use rules::totals::Totals;
 
@@ -96,7 +95,7 @@ fn route_job(
     ensures { routing_leaves (routing_answer result) map.new work.new plan.new
         ≡ routing_of bytes.now map.old work.old plan.old }
 {
-    let mut occupants = [Occupant::Free; 16384];
+    let mut occupants = [0; 16384];
     let held = hold_job(bytes, &mut occupants)?;
     room_for(held.vertices, held.work, map, work)?;
     zero_words(work, held.work);

@@ -5,7 +5,6 @@ ghost use Rattle.router.specs.Sizing.{sizing_of};
 
 use crate::held::{Held, hold_job};
 use job::refusal::Refused;
-use occupants::occupant::Occupant;
 
 // The refusal is 0 where the job is good, and so is its place; else vertices and work are 0.
 #[repr(C)]
@@ -41,6 +40,6 @@ impl From<Result<Held, Refused>> for SizingResult {
 pub fn maizespell_sizing(bytes: &[u8]) -> SizingResult
     ensures { result ≡ sizing_of bytes.now }
 {
-    let mut occupants = [Occupant::Free; 16384];
+    let mut occupants = [0; 16384];
     SizingResult::from(hold_job(bytes, &mut occupants))
 }

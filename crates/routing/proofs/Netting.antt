@@ -16,7 +16,6 @@ use Rattle.job.specs.Grid.{vertices}
 use Rattle.job.specs.Job.{Net, Job}
 use Rattle.job.specs.Reading.{good, read_job}
 use Rattle.job.specs.Structs.{grid_of}
-use Rattle.occupants.specs.declared.occupant.Occupant.{Occupant}
 use Rattle.reader.specs.Loading.{net_loaded, pins_loaded, boxes_loaded}
 use Rattle.reader.specs.declared.load.NetLoaded.{NetLoaded}
 use Rattle.rules.specs.Views.{View, view_of}
@@ -73,7 +72,7 @@ regroup : (xs ys : List Entry) (r : Routed) → with_entries xs (with_entries ys
 unfolding with_entries
 regroup xs ys r = λ i. record { entries = sym (append_assoc xs ys r.entries) i; metal = r.metal; totals = r.totals }
 
-module _ (bytes : List ℕ) (tech : TechStruct) (occupants : List Occupant) (found planFound : List ℕ) where
+module _ (bytes : List ℕ) (tech : TechStruct) (occupants : List ℕ) (found planFound : List ℕ) where
   -- so many nets are left: the rest from here gives the whole, and the plan holds what is done
   pub record Netting (codes pins boxes plan : List ℕ) (position bits : ℕ) (totals : TotalsStruct) (net left : ℕ) : Type 0 where
     pub count : ℕ

@@ -11,7 +11,6 @@ use Rattle.job.specs.Grid.{Grid, vertices}
 use Rattle.job.specs.Job.{Job}
 use Rattle.job.specs.Reading.{good, read_job}
 use Rattle.job.specs.Structs.{grid_of}
-use Rattle.occupants.specs.declared.occupant.Occupant.{Occupant}
 use Rattle.rules.specs.Routings.{routing}
 use Rattle.rules.specs.Maps.{map_of}
 use Rattle.rules.specs.declared.price.Tech.{Tech as TechStruct}
@@ -24,7 +23,7 @@ use Rattle.routing.specs.Plans.{plan_bits}
 use Rattle.routing.specs.Structs.{IsRouted}
 use Rattle.routing.specs.declared.routed.Routed.{Routed as RoutedStruct}
 
-module _ (bytes : List ℕ) (tech : TechStruct) (occupants : List Occupant) (found : List ℕ) (count start : ℕ) (held : PlanHeld bytes tech occupants found count start)
+module _ (bytes : List ℕ) (tech : TechStruct) (occupants : List ℕ) (found : List ℕ) (count start : ℕ) (held : PlanHeld bytes tech occupants found count start)
     {bare laid : List ℕ} (zeros : bare ≡ zeroed (vertices (grid_of tech.grid)) found) (kept : Beyond (vertices (grid_of tech.grid)) laid bare)
     (planFound : List ℕ) (r : RoutedStruct) {after plan : List ℕ}
     (routed : (j : Job) → read_job bytes ≡ good j → IsRouted j (routing j) 0 r planFound plan laid after) where

@@ -10,7 +10,6 @@ ghost use Rattle.routing.specs.Structs.{IsRouted};
 
 use crate::net::route_net;
 use crate::routed::Routed;
-use occupants::occupant::Occupant;
 use reader::load::load_net;
 use rules::list::prices_of;
 use rules::price::Tech;
@@ -21,7 +20,7 @@ use walker::NetAtHand;
 pub fn route_nets(
     s: &[u8],
     tech: Tech,
-    occupants: &[Occupant; 16384],
+    occupants: &[u8; 16384],
     map: &mut [u16],
     work: &mut [u64],
     plan: &mut [u8],

@@ -16,14 +16,13 @@ use crate::routed::Routed;
 use metal::codes::put_obstacles;
 use metal::pins::lay_all_pins;
 use metal::zeros::zero_codes;
-use occupants::occupant::Occupant;
 use rules::price::Tech;
 
 // The plan, the map and the totals of a job. Bits that the plan has no room for are put nowhere.
 pub fn route_plan(
     s: &[u8],
     tech: Tech,
-    occupants: &[Occupant; 16384],
+    occupants: &[u8; 16384],
     map: &mut [u16],
     work: &mut [u64],
     plan: &mut [u8],

@@ -1,13 +1,19 @@
 -- The two ends of a segment, and the clear vertices beyond them.
+--     end_vertex, end_toward                  the vertex of an end, and the direction that leads on from it
 --     EndRead, leaving_read, starting_read    what the code has read of an end
+--     end_read                                and of the one whose turn it is
 --     Back, way_back                          how far the first vertex lies back
+--     Counted, counted-begun, _on,            so many ends are counted
+--         _within
+--     Both, counted_done                      both are
 --     run_whole                               a clear run is as long as it is
-use Prim.Native.Nat.{ℕ, zero, suc, ◌*◌, ◌≤◌, ◌<◌, min}
+use Prim.Native.Nat.{ℕ, zero, suc, ◌+◌, ◌-◌, ◌*◌, ◌≤◌, ◌<◌, min}
 use mathlib.Core.Path.{◌≡◌, refl, sym, ap, ◌∙◌}
 use mathlib.Core.List.{List, [], ◌∷◌}
 use mathlib.Core.Bool.{Bool, true, false}
 use native.Mathlib.Omega.{arith}
 use lib.ListN.{length}
+use Rattle.std.proofs.Common.{slice_index_or}
 use Rattle.job.specs.Grid.{Grid, vertices, stride_of}
 use Rattle.job.specs.Structs.{grid_of}
 use Rattle.job.specs.declared.grid.Grid.{Grid as GridStruct}
@@ -22,8 +28,18 @@ use Rattle.rules.specs.declared.segment.Direction.TheVariants.{Low, High}
 use Rattle.rules.specs.declared.track.Track.{Track}
 use Rattle.rules.specs.declared.end.End.{End}
 use Rattle.rules.proofs.Fitting.{TrackRead}
-use Rattle.rules.proofs.Rooms.{room_read}
+use Rattle.rules.proofs.Rooms.{room_read, run_within}
 use Rattle.rules.proofs.Firsts.{distance, first_on, first_near}
+
+-- the vertex of an end: the last vertex, then the first
+unfoldable pub end_vertex : Grid → Direction → (n v which : ℕ) → ℕ
+end_vertex g d n v zero = v
+end_vertex g d n v (suc which) = first_of g d n v
+
+-- the direction that leads on from it
+unfoldable pub end_toward : Direction → (which : ℕ) → Direction
+end_toward d zero = d
+end_toward d (suc which) = opposite d
 
 -- the other direction, as the code holds it
 opposite_is : (d : DirectionEnum) → direction_of (opposite_to d) ≡ opposite (direction_of d)
@@ -82,6 +98,62 @@ module _ {g : GridStruct} {v : ℕ} {from : VertexStruct} {track : Track} (h : v
         vertex = starting_vertex;
         toward = opposite_is d;
       }
+
+-- of the two ends in their order, the one whose turn it is
+pub end_read : (g : Grid) (d : Direction) (n v which : ℕ) {stride : ℕ} {leaving starting : End} (other : End) → which < 2
+    → EndRead g stride v d leaving → EndRead g stride (first_of g d n v) (opposite d) starting
+    → EndRead g stride (end_vertex g d n v which) (end_toward d which) (slice_index_or (leaving ∷ starting ∷ []) which other)
+unfolding end_vertex end_toward
+end_read g d n v zero other h leaves starts = leaves
+end_read g d n v (suc zero) other h leaves starts = starts
+end_read g d n v (suc (suc which)) other h leaves starts = absurd (omega (arith, h))
+
+module _ (g : Grid) (view : View) (d : Direction) (missing n v : ℕ) where
+  -- both ends are counted: the clear vertices beyond the leaving end, and as many beyond the starting end as
+  -- are still asked for
+  pub record Both (leaving laid : ℕ) : Type 0 where
+    pub order : leaving ≤ laid
+    pub leaves : leaving ≡ length (clear_run g view d missing v)
+    pub starts : laid - leaving ≡ length (clear_run g view (opposite d) (missing - leaving) (first_of g d n v))
+
+  -- the clear vertices beyond so many ends are counted: those before the last of them, and all
+  unfoldable pub Counted : (which leaving laid : ℕ) → Type 0
+  Counted zero leaving laid = laid ≡ 0
+  Counted (suc zero) leaving laid = laid ≡ length (clear_run g view d missing v)
+  Counted (suc (suc which)) leaving laid = Both leaving laid
+
+  -- beyond none
+  pub counted-begun : Counted 0 0 0
+  unfolding Counted
+  counted-begun = refl
+
+  -- one end more
+  pub counted_on : (which leaving laid : ℕ) {stride count : ℕ} {e : End} → which < 2 → Counted which leaving laid
+      → EndRead g stride (end_vertex g d n v which) (end_toward d which) e
+      → length (clear_run g view (direction_of e.toward) (missing - laid) e.vertex) ≡ count → Counted (which + 1) laid (laid + count)
+  unfolding Counted end_vertex end_toward
+  counted_on zero leaving laid {count = count} h none end is =
+      let all : missing - 0 ≡ missing = omega arith in
+      let leaves : length (clear_run g view d missing v) ≡ count = rw (none, end.toward, end.vertex, all) at is in
+      omega (arith, none, leaves)
+  counted_on (suc zero) leaving laid {count = count} h leaves end is =
+      let starts : length (clear_run g view (opposite d) (missing - laid) (first_of g d n v)) ≡ count = rw (end.toward, end.vertex) at is in
+      record { order = omega arith; leaves = leaves; starts = omega (arith, starts) }
+  counted_on (suc (suc which)) leaving laid h so_far end is = absurd (omega (arith, h))
+
+  -- while an end is left, never more than are missing
+  pub counted-within : (which leaving laid : ℕ) → which < 2 → v < vertices g → Counted which leaving laid → laid ≤ missing
+  unfolding Counted
+  counted-within zero leaving laid h there none = omega (arith, none)
+  counted-within (suc zero) leaving laid h there leaves = omega (arith, leaves, run_within g view d missing v there)
+  counted-within (suc (suc which)) leaving laid h there so_far = absurd (omega (arith, h))
+
+  -- beyond both
+  pub counted_done : (which leaving laid : ℕ) → 2 ≤ which → Counted which leaving laid → Both leaving laid
+  unfolding Counted
+  counted_done zero leaving laid h so_far = absurd (omega (arith, h))
+  counted_done (suc zero) leaving laid h so_far = absurd (omega (arith, h))
+  counted_done (suc (suc which)) leaving laid h so_far = so_far
 
 -- a clear run is as long as it is
 pub run_whole : (g : Grid) (view : View) (d : Direction) (k v : ℕ) → clear_run g view d (length (clear_run g view d k v)) v ≡ clear_run g view d k v

@@ -1,5 +1,5 @@
 -- Counting the clear vertices beyond a vertex.
---     OnEnd                           a fact of every grid on which an end lies
+--     OnTrack                         a fact of every grid of which the code has read the vertex's track
 --     Counting, counting_begun        the count so far
 --     counting_next                   the next vertex to count
 --     counting_on                     one clear vertex more
@@ -12,18 +12,17 @@ use lib.ListN.{length}
 use Rattle.job.specs.Grid.{Grid, vertices, stride_of}
 use Rattle.job.specs.Structs.{grid_of}
 use Rattle.job.specs.declared.grid.Grid.{Grid as GridStruct}
-use Rattle.rules.specs.Tracks.{layer_of}
+use Rattle.rules.specs.Tracks.{layer_of, vertex_by}
 use Rattle.rules.specs.Views.{View}
 use Rattle.rules.specs.Segments.{Direction}
 use Rattle.rules.specs.Overheads.{clear, clear_run}
-use Rattle.rules.specs.Structs.{room_toward, next_on}
+use Rattle.rules.specs.Structs.{OnGrid, track_of, room_toward, next_on}
+use Rattle.rules.specs.declared.track.Track.{Track}
 use Rattle.rules.proofs.Rooms.{next_toward, Onward, onward, run_on, run_stops, run_within}
 
--- a fact of every grid on which an end lies, where so many are asked for (the loop no longer holds the end)
-abbrev pub OnEnd : (v stride within : ℕ) → Direction → (Grid → (most : ℕ) → Type 0) → Type 0
-OnEnd v stride within d fact =
-    (g : GridStruct) (most : ℕ) → v < vertices (grid_of g) → stride_of (grid_of g) (layer_of (grid_of g) v) ≡ stride
-    → within ≡ min most (room_toward (grid_of g) d v) → fact (grid_of g) most
+-- a fact of every grid of which the code has read the vertex's track (the loops no longer hold the grid)
+abbrev pub OnTrack : (v : ℕ) → Track → (Grid → Type 0) → Type 0
+OnTrack v track fact = (g : GridStruct) → OnGrid g v → track ≡ track_of (grid_of g) (vertex_by (grid_of g) v) → fact (grid_of g)
 
 module _ (g : Grid) (view : View) (d : Direction) (most v : ℕ) where
   -- how many clear vertices lie beyond one, at most k

@@ -1,12 +1,12 @@
 // What a via move owes for the segment that it leaves.
-ghost use Rattle.std.specs.Prelude.{◌≡◌, ◌<◌, ◌≤◌, length};
+ghost use Rattle.std.specs.Prelude.{◌≡◌, ◌<◌};
 ghost use Rattle.job.specs.Grid.{vertices};
 ghost use Rattle.job.specs.Structs.{Sized, grid_of, vertex_of};
 ghost use Rattle.rules.specs.Tracks.{vertex_by};
 ghost use Rattle.rules.specs.Prices.{line_of};
-ghost use Rattle.rules.specs.Overheads.{clear_run, otherwise, too_short, overhead_of};
+ghost use Rattle.rules.specs.Overheads.{otherwise, too_short, overhead_of};
 ghost use Rattle.rules.specs.Seen.{view_by};
-ghost use Rattle.rules.specs.Structs.{OnGrid, track_of, direction_of, EndOn, segment_of, heading_of, steps_of, line_record, tech_by, seen_by, cost_of, FewMissing, IsOverhead, IsOverheadAnywhere, overhead_cost};
+ghost use Rattle.rules.specs.Structs.{OnGrid, track_of, segment_of, heading_of, steps_of, line_record, tech_by, seen_by, cost_of, FewMissing, IsOverhead, IsOverheadAnywhere, overhead_cost};
 ghost use Rattle.job.specs.declared.grid.Grid.{Grid as GridStruct};
 ghost use Rattle.rules.specs.Charging.{Here};
 
@@ -40,35 +40,15 @@ pub enum Overhead {
 fn otherwise(area: usize) -> Overhead
     ensures { IsOverheadAnywhere area result (otherwise area) }
 {
-    let penalty = Penalty::from(area);
+    let penalty = Penalty::from_field(area);
     match penalty {
         Penalty::Closed => Overhead::Forbidden,
         Penalty::Price(_price) => Overhead::Penalised,
     }
 }
 
-// How many clear vertices follow each other beyond an end, at most so many: the first vertex that isn't clear
-// stops the count.
-fn clear_beyond(seen: &[u8; 16384], stride: usize, end: End, most: usize) -> usize
-    requires { (grid : GridStruct) × (Sized grid) × (EndOn (grid_of grid) stride end) }
-    ensures few { result ≤ most }
-    ensures clear { (grid : GridStruct) → EndOn (grid_of grid) stride end
-        → result ≡ length (clear_run (grid_of grid) (view_by (grid_of grid) seen.now) (direction_of end.toward) most end.vertex) }
-{
-    let toward = end.toward;
-    let within = most.min(end.room);
-    let mut last = end.vertex;
-    for count in 0..within {
-        last = next_toward(stride, toward, last);
-        if !clear(seen, last) {
-            return count;
-        }
-    }
-    within
-}
-
 // An extension of as many clear vertices as are missing, at the leaving end first and the rest at the
-// starting end, or the area penalty.
+// starting end, or the area penalty. The first vertex that isn't clear stops the count of its own end.
 fn too_short(track: Track, line: Layer, seen: &[u8; 16384], v: usize, segment: Segment) -> Overhead
     requires { ((grid : GridStruct) × (Sized grid) × (v < vertices (grid_of grid)) × (track ≡ track_of (grid_of grid) (vertex_by (grid_of grid) v)))
         × (line.least < 16) }
@@ -82,12 +62,25 @@ fn too_short(track: Track, line: Layer, seen: &[u8; 16384], v: usize, segment: S
     let length = steps_of(segment);
     let missing = line.least.saturating_sub(length);
     let leaving_end = End::leaving(track, v, toward);
-    let leaving = clear_beyond(seen, track.stride, leaving_end, missing);
     let starting_end = End::starting(track, v, toward, length);
-    let starting = clear_beyond(seen, track.stride, starting_end, missing - leaving);
-    if leaving + starting < missing {
+    let mut laid = 0;
+    let mut leaving = 0;
+    'ends: for end in [leaving_end, starting_end] {
+        // Once the starting end begins, what was laid so far is at the leaving end.
+        leaving = laid;
+        let mut last = end.vertex;
+        for _count in 0..(missing - laid).min(end.room) {
+            last = next_toward(track.stride, end.toward, last);
+            if !clear(seen, last) {
+                continue 'ends;
+            }
+            laid += 1;
+        }
+    }
+    if laid < missing {
         return otherwise(line.area);
     }
+    let starting = laid - leaving;
     Overhead::Lengthened(missing, Extension { leaving, starting })
 }
 

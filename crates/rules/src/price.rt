@@ -39,31 +39,50 @@ impl Prices {
         self.tech.grid.vertices() * 2 * (self.tech.largest + 1)
     }
 
-    // The layer line of a layer.
     pub fn line(&self, layer: usize) -> Layer
         requires { layer < 8 }
         ensures { result ≡ line_at self.now.tech.layers layer }
     {
-        self.tech.layers[layer]
+        line_at(&self.tech.layers, layer)
     }
 
-    // The wire price of the layer, or the price of the via, which the line of the lower of its two layers
-    // holds.
     pub fn base(&self, layer: usize, kind: Kind) -> usize
         requires { (layer < 8) × (kind_by kind ≡ down → 0 < layer) }
         ensures { result ≡ base_in self.now.tech.layers layer (kind_by kind) }
     {
-        match kind {
-            Kind::Along(_direction) => self.tech.layers[layer].wire,
-            Kind::Down => self.tech.layers[layer - 1].via,
-            Kind::Up => self.tech.layers[layer].via,
-        }
+        base_price(&self.tech.layers, layer, kind)
     }
 
-    // What a vertex's byte of flags adds to that.
     pub fn extra(&self, byte: u8) -> Penalty
         ensures { cost_of result ≡ extra_in self.now.extras byte }
     {
-        Penalty::from(self.extras[(byte % 8) as usize])
+        extra_of(&self.extras, byte)
     }
+}
+
+// The layer line of a layer.
+pub fn line_at(layers: &[Layer; 8], layer: usize) -> Layer
+    requires { layer < 8 }
+    ensures { result ≡ line_at layers.now layer }
+{
+    layers[layer]
+}
+
+// The wire price of the layer, or the price of the via, which the line of the lower of its two layers holds.
+pub fn base_price(layers: &[Layer; 8], layer: usize, kind: Kind) -> usize
+    requires { (layer < 8) × (kind_by kind ≡ down → 0 < layer) }
+    ensures { result ≡ base_in layers.now layer (kind_by kind) }
+{
+    match kind {
+        Kind::Along(_direction) => layers[layer].wire,
+        Kind::Down => layers[layer - 1].via,
+        Kind::Up => layers[layer].via,
+    }
+}
+
+// What a vertex's byte of flags adds to that.
+pub fn extra_of(extras: &[usize; 8], byte: u8) -> Penalty
+    ensures { cost_of result ≡ extra_in extras.now byte }
+{
+    Penalty::from_field(extras[(byte % 8) as usize])
 }

@@ -22,5 +22,8 @@ pub fn clear(seen: &[u8; 16384], v: usize) -> bool
     requires { v < 16384 }
     ensures { result ≡ clear_byte (get_or seen.now v 0) }
 {
-    !has(seen, v, BLOCKED) && !has(seen, v, TAKEN)
+    if has(seen, v, BLOCKED) {
+        return false;
+    }
+    !has(seen, v, TAKEN)
 }

@@ -2,6 +2,7 @@
 --     bit_some, bit_power           a bit is some, and a power of 2
 --     last_bit                      a move that is none of the first three
 --     has_told, with_told           whether a byte has it, and the byte with it set, as the code has them
+--     with_set, with_kept           the byte with it set, by its test
 --     none_has                      a byte without any
 --     moves_set, moves_stay         one byte of many with it set: it is set afterwards, and other bits stay
 use Prim.Native.Nat.{ℕ, zero, suc, ◌+◌, ◌*◌, ◌/◌, ◌%◌, ◌^◌, ◌<◌}
@@ -59,11 +60,11 @@ module _ (byte m : ℕ) where
       by (suc (suc r)) bit few some = absurd (omega arith)
 
   -- the byte with it set
-  with_set : byte / bit_of m % 2 ≡ 0 → byte + bit_of m ≡ with_move byte m
+  pub with_set : byte / bit_of m % 2 ≡ 0 → byte + bit_of m ≡ with_move byte m
   unfolding with_move
   with_set e = rw (eq-eqb (byte / bit_of m % 2) 0 e) refl
 
-  with_kept : (byte / bit_of m % 2 ≡ 0 → ⊥) → byte ≡ with_move byte m
+  pub with_kept : (byte / bit_of m % 2 ≡ 0 → ⊥) → byte ≡ with_move byte m
   unfolding with_move
   with_kept e = rw (ne_eqb (byte / bit_of m % 2) 0 e) refl
 

@@ -15,9 +15,6 @@ use Rattle.job.specs.Lists.{any}
 use Rattle.job.specs.Grid.{Grid, Vertex, vertices}
 use Rattle.job.specs.Structs.{box_of, box_struct}
 use Rattle.job.specs.declared.groups.Box.{Box as BoxStruct}
-use Rattle.occupants.specs.Occupants.{is_free}
-use Rattle.occupants.specs.declared.occupant.Occupant.{Occupant}
-use Rattle.occupants.specs.declared.occupant.Occupant.TheVariants.{Free}
 use Rattle.rules.specs.Tracks.{vertex_by}
 use Rattle.rules.specs.Views.{in_box, in_guide}
 use Rattle.views.specs.Sight.{box_in, boxes_in, seen_byte, guided_byte, GuidedWhere, sight_of}
@@ -41,7 +38,7 @@ guide_all numbers b t w (suc n) =
     let all : suc n - 0 ≡ suc n = omega arith in
     rw (all, ne_eqb (suc n) 0 (λ e. omega (arith, e))) (guided_flag b t (any (in_box w) (boxes_in numbers 0 (suc n))))
 
-module _ (g : Grid) (occupants : List Occupant) (codes numbers : List ℕ) (n : ℕ) where
+module _ (g : Grid) (occupants codes numbers : List ℕ) (n : ℕ) where
   -- before a turn: the boxes that are left make the bytes whole
   pub record BoxesLeft (found seen : List ℕ) (i : ℕ) : Type 0 where
     pub size : length seen ≡ length found
@@ -50,13 +47,13 @@ module _ (g : Grid) (occupants : List Occupant) (codes numbers : List ℕ) (n : 
 
   -- before the first turn: the bytes tell of the occupants and the codes
   pub guide_begin : {found : List ℕ}
-      → ((v : ℕ) → v < vertices g → get_or found v 0 ≡ seen_byte (not (is_free (get_or occupants v Free))) (not (eqb (get_or codes v 0) 0)) (not (eqb n 0)))
+      → ((v : ℕ) → v < vertices g → get_or found v 0 ≡ seen_byte (not (eqb (get_or occupants v 0) 0)) (not (eqb (get_or codes v 0) 0)) (not (eqb n 0)))
       → BoxesLeft found found 0
   unfolding sight_of
   guide_begin made =
       record {
         size = refl;
-        left = λ v on. ap (guided_byte _) (made v on) ∙ guide_all numbers (not (is_free (get_or occupants v Free))) (not (eqb (get_or codes v 0) 0)) (vertex_by g v) n;
+        left = λ v on. ap (guided_byte _) (made v on) ∙ guide_all numbers (not (eqb (get_or occupants v 0) 0)) (not (eqb (get_or codes v 0) 0)) (vertex_by g v) n;
       }
 
   module _ {found seen : List ℕ} {i : ℕ} (h : BoxesLeft found seen i) where

@@ -20,9 +20,7 @@ use Rattle.job.specs.Good.{GoodPin, GoodNet, Distinct, all_pins}
 use Rattle.job.specs.Reading.{on_obstacle}
 use Rattle.job.proofs.Tests.{nor_holds}
 use Rattle.job.proofs.Grids.{same_eq, same_refl, number_inj}
-use Rattle.occupants.specs.Occupants.{occupant_of, is_free, Occupants}
-use Rattle.occupants.specs.declared.occupant.Occupant.{Occupant}
-use Rattle.occupants.specs.declared.occupant.Occupant.TheVariants.{Free, Obstacle as AnObstacle, Pin}
+use Rattle.occupants.specs.Occupants.{occupant_of, Occupants}
 use Rattle.occupants.proofs.Covering.{any_append}
 use Rattle.reader.proofs.Loaded.{all_one}
 use Rattle.rules.specs.Views.{member, others_hold, pins_of}
@@ -119,17 +117,17 @@ module _ (g : Grid) (obstacles : List Obstacle) (w : Vertex) (on : T (inside g w
 
     -- ---- blocked
 
-    -- an occupant other than free tells of an obstacle or a pin
-    occupant_some : (a b : Bool) → not (is_free (cond a AnObstacle (cond b Pin Free))) ≡ (a || b)
+    -- an occupant that is not 0 tells of an obstacle or a pin
+    occupant_some : (a b : Bool) → not (eqb (cond a 1 (cond b 2 0)) 0) ≡ (a || b)
     occupant_some true b = refl
     occupant_some false true = refl
     occupant_some false false = refl
 
     -- "It may not enter an obstacle or another net's pin."
-    pub blocked_occupant : (before : List Net) {occupants : List Occupant} → All (GoodNet g obstacles) (with before) → Distinct (all_pins (with before))
+    pub blocked_occupant : (before : List Net) {occupants : List ℕ} → All (GoodNet g obstacles) (with before) → Distinct (all_pins (with before))
         → Occupants g obstacles (all_pins (with before)) occupants
         → (on_obstacle g obstacles w || others_hold (length before) (map (pins_of g) (with before)) number)
-        ≡ (not (member number (pins_of g net)) && not (is_free (get_or occupants number Free)))
+        ≡ (not (member number (pins_of g net)) && not (eqb (get_or occupants number 0) 0))
     unfolding occupant_of pins_of
     blocked_occupant before {occupants} good d occupied = by (member number (pins_of g net)) refl
       where
@@ -137,7 +135,7 @@ module _ (g : Grid) (obstacles : List Obstacle) (w : Vertex) (on : T (inside g w
         mine = (all_one (GoodNet g obstacles) before net after good).good_pins
 
         by : (b : Bool) → member number (pins_of g net) ≡ b → (on_obstacle g obstacles w || others_hold (length before) (map (pins_of g) (with before)) number)
-            ≡ (not b && not (is_free (get_or occupants number Free)))
+            ≡ (not b && not (eqb (get_or occupants number 0) 0))
         by true e = neither _ _ (own_free net.pins mine (pins_number net.pins mine ∙ e)) (own_apart before good d e)
         by false e =
             rw (others_all before e, ← nets_number (with before) good, occupied.says w on)

@@ -14,9 +14,6 @@ use Rattle.job.specs.Grid.{Grid, vertices}
 use Rattle.job.specs.Job.{Box, Net, Job}
 use Rattle.job.specs.Reading.{on_obstacle}
 use Rattle.job.proofs.Grids.{below_inside}
-use Rattle.occupants.specs.Occupants.{is_free}
-use Rattle.occupants.specs.declared.occupant.Occupant.{Occupant}
-use Rattle.occupants.specs.declared.occupant.Occupant.TheVariants.{Free}
 use Rattle.rules.specs.Tracks.{vertex_by}
 use Rattle.rules.specs.Views.{member, others_hold, in_guide, pins_of, boxes_of, view_of}
 use Rattle.rules.specs.Seen.{holds, view_by}
@@ -50,7 +47,7 @@ agree_and v n {a} {b} h = by (ltb v n) refl
     by true e = h (ltb-true v n e)
     by false e = refl
 
-module _ {j : Job} {k : ℕ} {metal : List (List ℕ)} {occupants : List Occupant} {codes pins boxes : List ℕ} {pinCount boxCount : ℕ}
+module _ {j : Job} {k : ℕ} {metal : List (List ℕ)} {occupants codes pins boxes : List ℕ} {pinCount boxCount : ℕ}
     (hand : NetAtHand j k metal occupants codes pins boxes pinCount boxCount) (made : List ℕ)
     (sights : (v : ℕ) → v < vertices j.grid → get_or made v 0 ≡ sight_of j.grid occupants codes (boxes_in boxes 0 boxCount) v)
     (long : vertices j.grid ≤ length made) where
@@ -65,7 +62,7 @@ module _ {j : Job} {k : ℕ} {metal : List (List ℕ)} {occupants : List Occupan
     own = member v (pins_of j.grid hand.net)
 
     abbrev occupied : Bool
-    occupied = not (is_free (get_or occupants v Free))
+    occupied = not (eqb (get_or occupants v 0) 0)
 
     abbrev taken : Bool
     taken = taken_code (suc k) (get_or codes v 0)
@@ -120,7 +117,7 @@ module _ {j : Job} {k : ℕ} {metal : List (List ℕ)} {occupants : List Occupan
       }
 
 -- the bytes that the code has made
-pub seen_view : {g : Grid} {n : ℕ} {j : Job} {k : ℕ} {metal : List (List ℕ)} {occupants : List Occupant} {codes pins boxes seen : List ℕ}
+pub seen_view : {g : Grid} {n : ℕ} {j : Job} {k : ℕ} {metal : List (List ℕ)} {occupants codes pins boxes seen : List ℕ}
     {pinCount boxCount : ℕ} (made : List ℕ)
     → ((v : ℕ) → v < vertices g → get_or made v 0 ≡ sight_of g occupants codes (boxes_in boxes 0 boxCount) v) → vertices g ≤ length made
     → seen ≡ opened n codes (take pinCount pins) made → g ≡ j.grid → n ≡ suc k → NetAtHand j k metal occupants codes pins boxes pinCount boxCount → view_by g seen ≡ view_of j k metal

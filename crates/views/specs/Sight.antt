@@ -14,9 +14,7 @@ use Rattle.std.specs.Prelude.{ℕ, zero, suc, ◌+◌, ◌-◌, ◌%◌, ◌<◌
 use Rattle.job.specs.Grid.{Grid, Vertex, vertices}
 use Rattle.job.specs.Job.{Box, Net, Job}
 use Rattle.job.specs.Good.{all_pins, GoodJob}
-use Rattle.occupants.specs.Occupants.{is_free, Occupants}
-use Rattle.occupants.specs.declared.occupant.Occupant.{Occupant}
-use Rattle.occupants.specs.declared.occupant.Occupant.TheVariants.{Free}
+use Rattle.occupants.specs.Occupants.{Occupants}
 use Rattle.rules.specs.Tracks.{vertex_by}
 use Rattle.rules.specs.Views.{member, in_box, in_guide, pins_of}
 use Rattle.rules.specs.Maps.{net_code}
@@ -63,7 +61,7 @@ GuidedWhere g test before after = (v : ℕ) → v < vertices g → get_or after 
 
 -- net k of a good job, with its pins and boxes in arrays, the occupants of the job, and the map's codes of
 -- the metal
-pub record NetAtHand (j : Job) (k : ℕ) (metal : List (List ℕ)) (occupants : List Occupant) (codes pins boxes : List ℕ) (pinCount boxCount : ℕ) : Type 0 where
+pub record NetAtHand (j : Job) (k : ℕ) (metal : List (List ℕ)) (occupants codes pins boxes : List ℕ) (pinCount boxCount : ℕ) : Type 0 where
   pub job : GoodJob j
   pub before : List Net
   pub net : Net
@@ -79,9 +77,9 @@ pub record NetAtHand (j : Job) (k : ℕ) (metal : List (List ℕ)) (occupants : 
   pub fresh : (v : ℕ) → v < vertices j.grid → get_or codes v 0 ≡ suc k → member v (pins_of j.grid net) ≡ true
 
 -- the byte of a vertex where every net's pins are blocked and every net's metal is taken
-unfoldable pub sight_of : Grid → (occupants : List Occupant) → (codes : List ℕ) → List Box → (v : ℕ) → ℕ
+unfoldable pub sight_of : Grid → (occupants codes : List ℕ) → List Box → (v : ℕ) → ℕ
 sight_of g occupants codes boxes v =
-    seen_byte (not (is_free (get_or occupants v Free))) (not (eqb (get_or codes v 0) 0)) (not (in_guide boxes (vertex_by g v)))
+    seen_byte (not (eqb (get_or occupants v 0) 0)) (not (eqb (get_or codes v 0) 0)) (not (in_guide boxes (vertex_by g v)))
 
 -- the byte of one of the net's own pins, from that: it is not blocked, and it is taken by another net's code
 unfoldable pub own_byte : (n code byte : ℕ) → ℕ

@@ -2,7 +2,7 @@
 ghost use Rattle.std.specs.Prelude.{◌≡◌, ◌<◌, ◌≤◌, length};
 ghost use Rattle.job.specs.Grid.{vertices};
 ghost use Rattle.job.specs.Structs.{Sized, grid_of, box_of, box_struct};
-ghost use Rattle.rules.specs.Views.{between, in_box};
+ghost use Rattle.rules.specs.Views.{between, on_layers, on_rows, on_columns, in_box};
 ghost use Rattle.views.specs.Sight.{box_in, in_row, in_layer, guided_byte, GuidedWhere};
 
 use job::grid::{Grid, Vertex};
@@ -30,24 +30,43 @@ pub fn box_in(boxes: &[u8; 90], from: usize) -> Box
     }
 }
 
-// Whether a layer, a row or a column lies from low to high of its axis.
+// Whether a layer, a row or a column lies from low to high.
 fn holds(span: Span, at: u8) -> bool
     ensures { result ≡ between span.low at span.high }
 {
     (span.low <= at) & (at <= span.high)
 }
 
+// Whether a layer, a row, a column is one of the box's.
+fn on_layers(layer: u8, guide: Box) -> bool
+    ensures { result ≡ on_layers layer (box_of guide) }
+{
+    holds(guide.layers, layer)
+}
+
+fn on_rows(row: u8, guide: Box) -> bool
+    ensures { result ≡ on_rows row (box_of guide) }
+{
+    holds(guide.rows, row)
+}
+
+fn on_columns(column: u8, guide: Box) -> bool
+    ensures { result ≡ on_columns column (box_of guide) }
+{
+    holds(guide.columns, column)
+}
+
 // The box test of a vertex: layer, row, column, left at the first that says no.
 fn in_box(layer: u8, row: u8, column: u8, guide: Box) -> bool
     ensures { result ≡ in_box (record { layer = layer; row = row; column = column }) (box_of guide) }
 {
-    if !holds(guide.layers, layer) {
+    if !on_layers(layer, guide) {
         return false;
     }
-    if !holds(guide.rows, row) {
+    if !on_rows(row, guide) {
         return false;
     }
-    holds(guide.columns, column)
+    on_columns(column, guide)
 }
 
 // The byte of a vertex, where it is found inside the guide or is not. OUTSIDE is the highest flag: the
@@ -76,7 +95,7 @@ fn guide_layer(seen: &mut [u8], grid: Grid, layer: usize, guide: Box)
     ensures { GuidedWhere (grid_of grid) (in_layer layer (box_of guide)) seen.old seen.new }
 {
     for row in 0..grid.rows {
-        if holds(guide.rows, row as u8) {
+        if on_rows(row as u8, guide) {
             guide_row(seen, grid, layer, row, guide);
         }
     }
@@ -88,7 +107,7 @@ pub fn guide_box(seen: &mut [u8], grid: Grid, guide: Box)
     ensures { GuidedWhere (grid_of grid) (λ w. in_box w (box_of guide)) seen.old seen.new }
 {
     for layer in 0..grid.layers {
-        if holds(guide.layers, layer as u8) {
+        if on_layers(layer as u8, guide) {
             guide_layer(seen, grid, layer, guide);
         }
     }

@@ -4,15 +4,12 @@ ghost use Rattle.job.specs.Lists.{All};
 ghost use Rattle.job.specs.Grid.{vertices};
 ghost use Rattle.job.specs.Job.{Job};
 ghost use Rattle.job.specs.Structs.{Sized, grid_of};
-ghost use Rattle.occupants.specs.declared.occupant.Occupant.TheVariants.{Free};
-ghost use Rattle.occupants.specs.Occupants.{is_free};
 ghost use Rattle.rules.specs.Views.{view_of};
 ghost use Rattle.rules.specs.Seen.{view_by};
 ghost use Rattle.views.specs.Sight.{boxes_in, taken_code, seen_byte, NetAtHand, sight_of, own_byte, opened};
 
 use crate::guide::{box_in, guide_box};
 use job::grid::Grid;
-use occupants::occupant::Occupant;
 use rules::seen::{BLOCKED, OUTSIDE, TAKEN};
 
 // A flag where a test holds.
@@ -30,11 +27,11 @@ fn taken_by(net: u16, code: u16) -> bool
 }
 
 // The byte of a vertex with an occupant and a code, where every net's pins are blocked and every net's metal
-// is taken.
-fn byte_of(occupant: Occupant, code: u16, inside: bool) -> u8
-    ensures { result ≡ seen_byte (not (is_free occupant)) (not (eqb code 0)) (not inside) }
+// is taken. The occupant is not 0 on an obstacle and on every net's pin.
+fn byte_of(occupant: u8, code: u16, inside: bool) -> u8
+    ensures { result ≡ seen_byte (not (eqb occupant 0)) (not (eqb code 0)) (not inside) }
 {
-    let blocked = flag_if(occupant != Occupant::Free, BLOCKED);
+    let blocked = flag_if(occupant != 0, BLOCKED);
     let taken = flag_if(code != 0, TAKEN);
     blocked + taken + flag_if(!inside, OUTSIDE)
 }
@@ -48,16 +45,10 @@ fn own_byte(byte: u8, code: u16, net: u16) -> u8
 
 // The bytes of the first vertices, in one pass: all vertices are inside the guide or none is. An index runs
 // over the three arrays: a zip of three, each cut to the count, is no plainer.
-fn see_occupants(
-    seen: &mut [u8],
-    occupants: &[Occupant; 16384],
-    map: &[u16],
-    count: usize,
-    inside: bool,
-)
+fn see_occupants(seen: &mut [u8], occupants: &[u8; 16384], map: &[u16], count: usize, inside: bool)
     requires { (count ≤ length seen.old) × (count ≤ length map.now) × (count ≤ 16384) }
     ensures { (v : ℕ) → v < count → get_or seen.new v 0
-        ≡ seen_byte (not (is_free (get_or occupants.now v Free))) (not (eqb (get_or map.now v 0) 0)) (not inside) }
+        ≡ seen_byte (not (eqb (get_or occupants.now v 0) 0)) (not (eqb (get_or map.now v 0) 0)) (not inside) }
 {
     for v in 0..count {
         seen[v] = byte_of(occupants[v], map[v], inside);
@@ -67,7 +58,7 @@ fn see_occupants(
 // No boxes: the whole grid is inside the guide.
 fn see_grid(
     seen: &mut [u8],
-    occupants: &[Occupant; 16384],
+    occupants: &[u8; 16384],
     map: &[u16],
     grid: Grid,
     boxes: &[u8; 90],
@@ -96,7 +87,7 @@ fn open_pins(seen: &mut [u8; 16384], map: &[u16], pins: &[usize], net: u16)
 // What the net at hand sees, in its bytes.
 pub fn see_net(
     seen: &mut [u8; 16384],
-    occupants: &[Occupant; 16384],
+    occupants: &[u8; 16384],
     map: &[u16],
     grid: Grid,
     pins: &[usize; 16],

@@ -24,7 +24,6 @@ use Rattle.job.specs.Job.{Net, Job}
 use Rattle.job.specs.Good.{GoodNet, GoodJob}
 use Rattle.job.specs.Structs.{grid_of}
 use Rattle.job.proofs.TwoWay.{rules_hold, net_at}
-use Rattle.occupants.specs.declared.occupant.Occupant.{Occupant}
 use Rattle.reader.specs.Loading.{net_loaded, pins_loaded, boxes_loaded}
 use Rattle.reader.specs.declared.load.NetLoaded.{NetLoaded}
 use Rattle.reader.proofs.Loaded.{first_net, net_told, all_below_lem, all_one}
@@ -54,7 +53,7 @@ pub empty : {A : Type 0} (l : List A) → length l ≤ 0 → l ≡ []
 empty [] h = refl
 empty (n ∷ ns) h = absurd (omega (arith, h))
 
-module _ (bytes : List ℕ) (tech : TechStruct) (occupants : List Occupant) (found : List ℕ) {count start : ℕ} (held : NetsHeld bytes tech occupants found count start) where
+module _ (bytes : List ℕ) (tech : TechStruct) (occupants : List ℕ) (found : List ℕ) {count start : ℕ} (held : NetsHeld bytes tech occupants found count start) where
   -- so many nets are left: the codes are those of the metal, and past the grid the map is as found
   pub record Nets (before after : List Net) (metal : List (List ℕ)) (codes pins boxes : List ℕ) (position net left : ℕ) : Type 0 where
     pub nets : held.job.nets ≡ before ++ after

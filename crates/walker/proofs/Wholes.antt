@@ -15,7 +15,6 @@ use Rattle.job.specs.Good.{all_pins}
 use Rattle.job.specs.Reading.{good, read_job}
 use Rattle.job.specs.Structs.{grid_of}
 use Rattle.occupants.specs.Occupants.{Occupants}
-use Rattle.occupants.specs.declared.occupant.Occupant.{Occupant}
 use Rattle.rules.specs.Prices.{tech_of}
 use Rattle.rules.specs.Standings.{metal_at_first}
 use Rattle.rules.specs.Maps.{map_of}
@@ -28,7 +27,7 @@ use Rattle.metal.proofs.Slices.{beyond_trans, zeroed_bare, zeroed-beyond}
 use Rattle.metal.proofs.Finished.{map_finished}
 use Rattle.walker.specs.Structs.{NetsHeld, PlanHeld}
 
-module _ (bytes : List ℕ) (tech : TechStruct) (occupants : List Occupant) (found : List ℕ) (count start : ℕ) (held : PlanHeld bytes tech occupants found count start) where
+module _ (bytes : List ℕ) (tech : TechStruct) (occupants : List ℕ) (found : List ℕ) (count start : ℕ) (held : PlanHeld bytes tech occupants found count start) where
   -- the code's grid is the job's
   plan_grid : grid_of tech.grid ≡ held.job.grid
   unfolding tech_by tech_of
@@ -87,7 +86,7 @@ pub count-zeroed : (found : List ℕ) {n v : ℕ} {bare : List ℕ} → n ≡ v 
 count-zeroed found {bare = bare} e h = subst (λ (k : ℕ). bare ≡ zeroed k found) e h
 
 -- it has room
-pub bare_long : (bytes : List ℕ) (tech : TechStruct) (occupants : List Occupant) (found : List ℕ) (count start : ℕ) → PlanHeld bytes tech occupants found count start → {bare : List ℕ}
+pub bare_long : (bytes : List ℕ) (tech : TechStruct) (occupants : List ℕ) (found : List ℕ) (count start : ℕ) → PlanHeld bytes tech occupants found count start → {bare : List ℕ}
     → bare ≡ zeroed (vertices (grid_of tech.grid)) found → vertices (grid_of tech.grid) ≤ length bare
 bare_long bytes tech occupants found count start held zeros =
     let room = plan_room bytes tech occupants found count start held in

@@ -10,7 +10,6 @@ use Rattle.job.specs.Good.{all_pins}
 use Rattle.job.specs.Reading.{good, nets_at, read_job}
 use Rattle.job.specs.Heads.{job_head}
 use Rattle.occupants.specs.Occupants.{Occupants}
-use Rattle.occupants.specs.declared.occupant.Occupant.{Occupant}
 use Rattle.rules.specs.Prices.{tech_of}
 use Rattle.rules.specs.Standings.{metal_at_first}
 use Rattle.rules.specs.Routings.{Totals}
@@ -73,7 +72,7 @@ pub record Bounded (n : ℕ) (totals : TotalsStruct) (at : ℕ) : Type 0 where
 -- ---- a job that was read, with what the code holds of it
 
 -- before any net is joined: layers, occupants, and a map with room
-pub record PlanHeld (bytes : List ℕ) (tech : TechStruct) (occupants : List Occupant) (map : List ℕ) (count start : ℕ) : Type 0 where
+pub record PlanHeld (bytes : List ℕ) (tech : TechStruct) (occupants : List ℕ) (map : List ℕ) (count start : ℕ) : Type 0 where
   pub job : Job
   pub read : read_job bytes ≡ good job
   pub layers : tech_by tech ≡ tech_of job
@@ -84,7 +83,7 @@ pub record PlanHeld (bytes : List ℕ) (tech : TechStruct) (occupants : List Occ
   pub room : vertices job.grid ≤ length map
 
 -- layers, occupants, and the map's codes of its pins
-pub record NetsHeld (bytes : List ℕ) (tech : TechStruct) (occupants : List Occupant) (codes : List ℕ) (count start : ℕ) : Type 0 where
+pub record NetsHeld (bytes : List ℕ) (tech : TechStruct) (occupants : List ℕ) (codes : List ℕ) (count start : ℕ) : Type 0 where
   pub job : Job
   pub read : read_job bytes ≡ good job
   pub layers : tech_by tech ≡ tech_of job

@@ -13,15 +13,14 @@ use lib.Dec.{T}
 use Rattle.job.specs.Reading.{Read, refused, good, ◌>>=◌, ◌>>◌, rule}
 use Rattle.occupants.specs.Structs.{many_reached}
 use Rattle.occupants.specs.Occupants.{Passed, reached, stopped, answer_of, occupants_of, with_occupants, and_then}
-use Rattle.occupants.specs.declared.occupant.Occupant.{Occupant}
 
 -- what reading with occupants has come to, beside what reading has read; end is the position after it, Claim
 -- what the occupants then say
-pub data Follows {A : Type 0} (end : A → ℕ) (Claim : A → List Occupant → Type 0) : Passed → Read A → Type 0 where
-  both_stop : (n p : ℕ) (m : List Occupant) → Follows end Claim (stopped n p m) (refused n p)
-  both_go : (at : ℕ) (m : List Occupant) (a : A) → at ≡ end a → Claim a m → Follows end Claim (reached at m) (good a)
+pub data Follows {A : Type 0} (end : A → ℕ) (Claim : A → List ℕ → Type 0) : Passed → Read A → Type 0 where
+  both_stop : (n p : ℕ) (m : List ℕ) → Follows end Claim (stopped n p m) (refused n p)
+  both_go : (at : ℕ) (m : List ℕ) (a : A) → at ≡ end a → Claim a m → Follows end Claim (reached at m) (good a)
 
-module _ {A : Type 0} {end : A → ℕ} {Claim : A → List Occupant → Type 0} where
+module _ {A : Type 0} {end : A → ℕ} {Claim : A → List ℕ → Type 0} where
   -- a refusal is the code's answer
   pub follows_refused : {passed : Passed} {read : Read A} (n p : ℕ) → Follows end Claim passed read → read ≡ refused n p
       → answer_of passed ≡ refused n p
@@ -37,31 +36,31 @@ module _ {A : Type 0} {end : A → ℕ} {Claim : A → List Occupant → Type 0}
   follows_good a (both_go at m b position claim) e = let same : b ≡ a = cc in (rw (position, same), rw same at claim)
 
   -- a reading, then what comes after it
-  pub follows_then : {B : Type 0} {end' : B → ℕ} {Claim' : B → List Occupant → Type 0} {passed : Passed} {read : Read A}
-      (next : ℕ → List Occupant → Passed) (rest : A → Read B) → Follows end Claim passed read
-      → ((a : A) (m : List Occupant) → Claim a m → Follows end' Claim' (next (end a) m) (rest a))
+  pub follows_then : {B : Type 0} {end' : B → ℕ} {Claim' : B → List ℕ → Type 0} {passed : Passed} {read : Read A}
+      (next : ℕ → List ℕ → Passed) (rest : A → Read B) → Follows end Claim passed read
+      → ((a : A) (m : List ℕ) → Claim a m → Follows end' Claim' (next (end a) m) (rest a))
       → Follows end' Claim' (and_then passed next) (◌>>=◌ read rest)
   unfolding and_then ◌>>=◌
   follows_then next rest (both_stop n p m) go = both_stop n p m
   follows_then next rest (both_go at m a position claim) go = rw position (go a m claim)
 
   -- a reading from which something is made
-  pub follows_end : {B : Type 0} {end' : B → ℕ} {Claim' : B → List Occupant → Type 0} {passed : Passed} {read : Read A} (made : A → B)
-      → Follows end Claim passed read → ((a : A) → end a ≡ end' (made a)) → ((a : A) (m : List Occupant) → Claim a m → Claim' (made a) m)
+  pub follows_end : {B : Type 0} {end' : B → ℕ} {Claim' : B → List ℕ → Type 0} {passed : Passed} {read : Read A} (made : A → B)
+      → Follows end Claim passed read → ((a : A) → end a ≡ end' (made a)) → ((a : A) (m : List ℕ) → Claim a m → Claim' (made a) m)
       → Follows end' Claim' passed (◌>>=◌ read (λ a. good (made a)))
   unfolding ◌>>=◌
   follows_end made (both_stop n p m) ends claims = both_stop n p m
   follows_end made (both_go at m a position claim) ends claims = both_go at m (made a) (position ∙ ends a) (claims a m claim)
 
   -- a rule, then what comes after it
-  pub follows_rule : {passed : Passed} {read : Read A} (n p : ℕ) (m : List Occupant) (holds : Bool) → (T holds → Follows end Claim passed read)
+  pub follows_rule : {passed : Passed} {read : Read A} (n p : ℕ) (m : List ℕ) (holds : Bool) → (T holds → Follows end Claim passed read)
       → Follows end Claim (cond holds passed (stopped n p m)) (◌>>◌ (rule n p holds) read)
   unfolding rule ◌>>◌
   follows_rule n p m true go = go tt
   follows_rule n p m false go = both_stop n p m
 
 -- a reading that changes no occupant: where it is good, the code comes to its end and the occupants stay
-pub plain_follows : {A : Type 0} {Claim : List Occupant → Type 0} (position : A → ℕ) (end : ℕ) (read : Read A) (m : List Occupant)
+pub plain_follows : {A : Type 0} {Claim : List ℕ → Type 0} (position : A → ℕ) (end : ℕ) (read : Read A) (m : List ℕ)
     → ((a : A) → read ≡ good a → end ≡ position a) → Claim m → Follows position (λ a. Claim) (with_occupants m (many_reached end read)) read
 unfolding with_occupants many_reached ◌>>◌
 plain_follows place end (refused n p) m ends claim = both_stop n p m

@@ -11,7 +11,6 @@ use Rattle.job.specs.Grid.{Grid, Vertex, vertices, inside}
 use Rattle.job.specs.Job.{Obstacle}
 use Rattle.job.specs.Reading.{Read, refused, good, covered, on_obstacle, read_obstacle, read_many}
 use Rattle.occupants.specs.Occupants.{cover_obstacle, cover_read, obstacles_from, Occupants}
-use Rattle.occupants.specs.declared.occupant.Occupant.{Occupant}
 use Rattle.occupants.proofs.Covering.Following.{Follows, both_stop, both_go, follows_then, follows_end}
 use Rattle.occupants.proofs.Covering.Covered.{any_swap, occupants_alike, occupants_obstacle}
 use Rattle.occupants.proofs.CoverTurns.{obstacle_told}
@@ -24,7 +23,7 @@ on_middle g xs o done v = any_swap _ (o ∷ []) xs done
 
 module _ (bits : List ℕ) (g : Grid) (small : vertices g ≤ 16384) where
   -- an obstacle that was read is covered
-  cover_follows : (read : Read Obstacle) (at : ℕ) (done : List Obstacle) (pins : List Vertex) (m : List Occupant)
+  cover_follows : (read : Read Obstacle) (at : ℕ) (done : List Obstacle) (pins : List Vertex) (m : List ℕ)
       → ((o : Obstacle) → read ≡ good o → T (all (inside g) (covered g o))) → Occupants g done pins m
       → Follows (λ o. at + 27) (λ o. Occupants g (o ∷ done) pins) (cover_read g at m read) read
   unfolding cover_read
@@ -33,14 +32,14 @@ module _ (bits : List ℕ) (g : Grid) (small : vertices g ≤ 16384) where
       both_go (at + 27) (cover_obstacle g o m) o refl (occupants_obstacle g small o done pins m (fits o refl) occupants)
 
   -- one obstacle
-  obstacle_follows : (after at : ℕ) (done : List Obstacle) (pins : List Vertex) (m : List Occupant) → Occupants g done pins m
+  obstacle_follows : (after at : ℕ) (done : List Obstacle) (pins : List Vertex) (m : List ℕ) → Occupants g done pins m
       → Follows (λ o. at + 27) (λ o. Occupants g (o ∷ done) pins) (cover_read g at m (read_obstacle bits g 0 at)) (read_obstacle bits g after at)
   unfolding read_obstacle
   obstacle_follows after at done pins m occupants =
       cover_follows (read_obstacle bits g after at) at done pins m (λ o e. (obstacle_told bits g after at e).1) occupants
 
   -- n obstacles, after those done
-  pub obstacles_follow : (n at : ℕ) (done : List Obstacle) (pins : List Vertex) (m : List Occupant) → Occupants g done pins m
+  pub obstacles_follow : (n at : ℕ) (done : List Obstacle) (pins : List Vertex) (m : List ℕ) → Occupants g done pins m
       → Follows (λ xs. at + 27 * n) (λ xs. Occupants g (xs ++ done) pins) (obstacles_from bits g n at m) (read_many 27 (read_obstacle bits g) n at)
   unfolding obstacles_from read_many
   obstacles_follow zero at done pins m occupants = both_go at m [] (omega arith) occupants

@@ -1,4 +1,6 @@
 -- `heap::sift::sift_down` meets its contract.
+use Rattle.std.proofs.Common.{Some}
+use Rattle.heap.specs.Sifts.{Sinks}
 use Rattle.heap.proofs.Sifting.{falling_held, falling_asked, falling_on, falling_put, falling_done}
 use Rattle.heap.proofs.sift.sift_down.Goals as goal
 
@@ -6,7 +8,8 @@ pub lesser_below-requires : goal.lesser_below-requires
 lesser_below-requires c = falling_held c.loop-down.invariant
 
 pub shift-requires : goal.shift-requires
-shift-requires c = falling_asked c.loop-down.invariant c.in-Some.ensures
+unfolding Sinks
+shift-requires c = let below : Sinks _ _ _ _ _ (Some c.in-Some.down) = c.in-Some.ensures in falling_asked c.loop-down.invariant below.0
 
 pub loop-down-preserved : goal.loop-down-preserved
 loop-down-preserved c = falling_on c.loop-down.invariant c.in-Some.ensures c.shift.ensures

@@ -32,9 +32,9 @@ priced_penalises area {price} e = by (eqb area closed_price) e
 pub returns-in-Closed : goal.returns-in-Closed
 unfolding overhead_by FewMissing WholeOverhead
 returns-in-Closed c wire g view p =
-    record { same = closed_forbids _ (sym c.from-penalty.ensures ∙ c.in-Closed.is); few = tt; whole = tt }
+    record { same = closed_forbids _ (sym c.from_field-penalty.ensures ∙ c.in-Closed.is); few = tt; whole = tt }
 
 pub returns-in-Price : goal.returns-in-Price
 unfolding overhead_by FewMissing WholeOverhead
 returns-in-Price c wire g view p =
-    record { same = priced_penalises _ (sym c.from-penalty.ensures ∙ c.in-Price.is); few = tt; whole = tt }
+    record { same = priced_penalises _ (sym c.from_field-penalty.ensures ∙ c.in-Price.is); few = tt; whole = tt }

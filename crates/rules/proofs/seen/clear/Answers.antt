@@ -3,10 +3,10 @@ use mathlib.Core.Path.{refl, sym, ◌∙◌}
 use Rattle.rules.specs.Seen.{clear_byte}
 use Rattle.rules.proofs.seen.clear.Goals as goal
 
-pub returns-then-not-has : goal.returns-then-not-has
+pub returns-then-has : goal.returns-then-has
 unfolding clear_byte
-returns-then-not-has c = rw (c.has-then-not-has.ensures, sym c.has.ensures ∙ c.if-not-has.true) refl
+returns-then-has c = rw (sym c.has.ensures ∙ c.if-has.true) refl
 
-pub returns-else-not-has : goal.returns-else-not-has
+pub returns : goal.returns
 unfolding clear_byte
-returns-else-not-has c = rw (c.if-not-has.false, sym c.has.ensures ∙ c.if-not-has.false) refl
+returns c = rw (c.has-2.ensures, sym c.has.ensures ∙ c.if-has.false) refl

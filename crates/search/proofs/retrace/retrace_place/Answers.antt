@@ -73,7 +73,7 @@ returns-in_default c =
     answered_not (asked_not pre.2 (λ e from. omega (arith, told e from)))
 
 pub put_lead-requires : goal.put_lead-requires
-put_lead-requires c = let pre = c.requires.known in (omega (arith, pre.0, pre.1), pre.4, (c.lowest_among.ensures.some _ c.in-Some.is).0)
+put_lead-requires c = let pre = c.requires.known in (omega (arith, pre.0, pre.1), pre.4, omega (arith, (c.lowest_among.ensures.some _ c.in-Some.is).0))
 
 pub light-requires : goal.light-requires
 light-requires c =

@@ -1,10 +1,7 @@
 -- `views::sight::byte_of` meets its contract.
-use mathlib.Core.Path.{◌≡◌, ap, ◌∙◌}
 use mathlib.Core.Bool.{not}
 use native.Mathlib.Omega.{arith}
 use lib.Dec.{eqb}
-use Rattle.occupants.specs.Occupants.{is_free}
-use Rattle.occupants.proofs.Same.{same_free}
 use Rattle.views.proofs.Flags.{flag_below, byte_flags}
 use Rattle.views.proofs.sight.byte_of.Goals as goal
 
@@ -23,6 +20,4 @@ overflow_add-result-2 c =
     omega arith
 
 pub returns : goal.returns
-returns c =
-    let occupied : c.ne.result ≡ not (is_free c.args.occupant) = c.ne.ensures ∙ ap not (same_free c.args.occupant) in
-    byte_flags _ _ _ (rw occupied at c.flag_if-blocked.ensures) c.flag_if-taken.ensures c.flag_if.ensures
+returns c = byte_flags _ _ _ c.flag_if-blocked.ensures c.flag_if-taken.ensures c.flag_if.ensures

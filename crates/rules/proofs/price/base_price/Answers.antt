@@ -1,9 +1,9 @@
--- `rules::price::Prices::base` meets its contract: each kind of move by the line that prices it.
+-- `rules::price::base_price` meets its contract: each kind of move by the line that prices it.
 use mathlib.Core.Path.{refl, ap}
 use Rattle.job.specs.Structs.{no_line}
 use Rattle.rules.specs.PriceLists.{base_in}
 use Rattle.rules.specs.Structs.{line_at, kind_by}
-use Rattle.rules.proofs.price.Prices.base.Goals as goal
+use Rattle.rules.proofs.price.base_price.Goals as goal
 
 pub overflow_sub-result : goal.overflow_sub-result
 unfolding kind_by

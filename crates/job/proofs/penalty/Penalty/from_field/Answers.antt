@@ -1,7 +1,7 @@
--- `From<usize>` for `Penalty` meets its contract.
+-- `job::penalty::Penalty::from_field` meets its contract.
 use borrow.Author.Tests.{eq-eqb, ne_eqb}
 use Rattle.job.specs.Structs.{penalty_of}
-use Rattle.job.proofs.penalty.PenaltyFromUsize.from.Goals as goal
+use Rattle.job.proofs.penalty.Penalty.from_field.Goals as goal
 
 pub returns-then-field-eq-CLOSED : goal.returns-then-field-eq-CLOSED
 unfolding penalty_of
