@@ -32,7 +32,7 @@ eight-more ls l h =
     rw (k, n, set_at ls no_line (replicate (8 - suc (length ls)) no_line) l (length ls) refl) (sym (append_assoc ls (l ∷ []) (replicate (8 - suc (length ls)) no_line)))
 
 -- one line more, at its layer
-lines_more : (ls : List Layer) (l : Layer) → length ls < 8 → set (layers_of ls) (length ls) (layer_struct l) ≡ layers_of (ls ++ (l ∷ []))
+pub lines_more : (ls : List Layer) (l : Layer) → length ls < 8 → set (layers_of ls) (length ls) (layer_struct l) ≡ layers_of (ls ++ (l ∷ []))
 unfolding layers_of
 lines_more ls l h =
     rw (map-append layer_struct ls (l ∷ []), ← length-map ls layer_struct) (eight-more (map layer_struct ls) (layer_struct l) (rw length-map h))

@@ -1,7 +1,7 @@
 -- What a caller of `read_job` knows of its answer.
 --     ReadGood, read_at     the bytes hold a good job, and these are its head and its layer lines
 --     read_refused          the bytes are refused
---     free_bare             the occupants are bare where every vertex is free
+--     zeros_bare            occupants of zeros are bare
 --     least_below           no M is above 15
 use Prim.Native.Nat.{ℕ, ◌≤◌}
 use mathlib.Core.Path.{◌≡◌, refl}
@@ -61,10 +61,10 @@ module _ (bytes : List ℕ) where
   unfolding job_read
   read_refused e = made_refused handed _ e
 
--- the occupants are bare where every vertex is free
-pub free_bare : Bare (replicate 16384 0)
+-- occupants of zeros are bare
+pub zeros_bare : Bare (replicate 16384 0)
 unfolding Bare
-free_bare = refl
+zeros_bare = refl
 
 -- no M is above 15
 pub least_below : (ls : List Layer) → GoodLines ls → largest_min_length ls ≤ 15

@@ -270,7 +270,7 @@ module _ (bytes : List ℕ) (tech : TechStruct) (occupants : List ℕ) (found B 
         rw (← same, same_grid) ((all, whole, refl, refl, so_far.nets.coded), rw (whole, append-nil) so_far.tallied)
 
     -- the totals of all nets are small
-    pub fits_all : NetFits 4112 (Ok (record { totals = totals; next = at }))
+    pub fits_all : NetFits {E = Refused} 4112 (Ok (record { totals = totals; next = at }))
     unfolding NetFits
     fits_all =
         let few = nets_few bytes tech occupants found so_far.held so_far.nets in

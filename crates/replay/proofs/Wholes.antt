@@ -1,5 +1,6 @@
 -- A whole plan.
 --     end_refused, end_tail, end_good        the tail after the last net
+--     end_both                               that, or the refusal of a net
 --     plan_coded                             the codes of a good plan are those of its metal
 --     plan_answer, plan_map, plan_counted    the answer, the map and the counts of a plan
 use Prim.Native.Nat.{ℕ, ◌-◌}
@@ -27,7 +28,7 @@ use Rattle.job.specs.Slices.{zeroed}
 use Rattle.metal.proofs.Slices.{beyond_trans, zeroed_kept}
 use Rattle.walker.specs.Structs.{PlanHeld}
 use Rattle.walker.proofs.Wholes.{laid_kept, read_grid, finished_map_lem}
-use Rattle.replay.specs.Structs.{IsNets, CountedNets, IsReplayed, CountedPlan, plan_from, IsEnd, finished_map}
+use Rattle.replay.specs.Structs.{IsNets, CountedNets, IsReplayed, CountedPlan, plan_from, IsEnd, IsEnded, both_ended, finished_map}
 use Rattle.plan.specs.Leaving.{replayed_map}
 use Rattle.replay.specs.declared.net.Ended.{Ended}
 use Rattle.replay.proofs.Tails.{TailTest}
@@ -68,6 +69,14 @@ module _ (bytes : List ℕ) {read : Result Ended Refused} {ended : Ended} (told 
         ap (plan_from (bits_of bytes)) e ∙ tail_zero bytes all (ap (TailTest bytes) (sym next) ∙ zeros),
         total,
       )
+
+-- both together
+pub end_both : (bits : List ℕ) (read : Result Ended Refused) (r : Result (Result TotalsStruct Refused) Refused) → IsEnded bits read r
+    → IsEnd bits read (both_ended r)
+unfolding IsEnded
+end_both bits (Err e) r is = rw is (end_refused bits refl)
+end_both bits (Ok ended) (Err e) is = absurd is
+end_both bits (Ok ended) (Ok r) is = is
 
 -- what is read of a plan has the metal of its nets
 plan_metal : (bits : List ℕ) (all : Progress) (r : Routed) → plan_from bits (good all) ≡ good r → all.metal ≡ r.metal

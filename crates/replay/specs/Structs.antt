@@ -107,7 +107,7 @@ unfoldable pub CountedNet : Came Ended → (after : List ℕ) → Type 0
 CountedNet (stopped n p arrays) after = Unit
 CountedNet (came ended arrays) after = (after ≡ ended.counts) × CountsFit (2 ^ 22 * ended.next) after
 
-unfoldable pub NetFits : (n : ℕ) → Result EndedStruct Refused → Type 0
+unfoldable pub NetFits : {E : Type 0} → (n : ℕ) → Result EndedStruct E → Type 0
 NetFits n (Err e) = Unit
 NetFits n (Ok r) = Bounded n r.totals r.next
 
@@ -146,6 +146,17 @@ plan_from bits x = do
 -- what the code answers of the tail
 abbrev pub IsEnd : (bits : List ℕ) → Result EndedStruct Refused → Result TotalsStruct Refused → Type 0
 IsEnd bits read r = (g : Grid) (x : Read Progress) (codes : List ℕ) → IsNets g read x codes → IsReplayed r (plan_from bits x)
+
+-- the refusal of a net, or what it answers of the tail
+unfoldable pub IsEnded : {E : Type 0} → (bits : List ℕ) → Result EndedStruct E → Result (Result TotalsStruct Refused) E → Type 0
+IsEnded bits (Err e) r = r ≡ Err e
+IsEnded bits (Ok ended) (Err e) = ⊥
+IsEnded bits (Ok ended) (Ok r) = IsEnd bits (Ok ended) r
+
+-- the two refusals as one
+abbrev pub both_ended : Result (Result TotalsStruct Refused) Refused → Result TotalsStruct Refused
+both_ended (Err e) = Err e
+both_ended (Ok r) = r
 
 -- the map at the end
 unfoldable pub finished_map : {E : Type 0} → (occupants : List ℕ) → (count : ℕ) → Result TotalsStruct E → (map : List ℕ) → List ℕ

@@ -6,7 +6,7 @@ ghost use Rattle.job.specs.Reading.{good, read_job};
 ghost use Rattle.plan.specs.Reading.{read_plan};
 ghost use Rattle.counts.specs.Structs.{CountsFit};
 ghost use Rattle.walker.specs.Structs.{PlanHeld};
-ghost use Rattle.replay.specs.Structs.{NetFits, IsEnd, IsReplayed, CountedPlan, finished_map};
+ghost use Rattle.replay.specs.Structs.{NetFits, IsEnded, both_ended, IsReplayed, CountedPlan, finished_map};
 ghost use Rattle.plan.specs.Leaving.{replayed_map};
 
 use crate::net::Ended;
@@ -19,16 +19,29 @@ use metal::zeros::zero_codes;
 use rules::price::Tech;
 use rules::totals::Totals;
 
-// The tail after the last net.
-pub fn end_plan(plan: &[u8], read: Result<Ended, Refused>) -> Result<Totals, Refused>
+// The tail after the last net. A refusal of a net, whichever, is handed on.
+pub fn end_plan<E: Copy>(plan: &[u8], read: Result<Ended, E>) -> Result<Result<Totals, Refused>, E>
     requires { NetFits 4112 read }
-    ensures { IsEnd (bits_of plan.now) read result }
+    ensures { IsEnded (bits_of plan.now) read result }
 {
-    let ended = read?;
+    let ended = match read {
+        Ok(ended) => ended,
+        Err(refusal) => return Err(refusal),
+    };
     if !zero_tail(plan, ended.next) {
-        return Err(Refusal::PlanCut.at(ended.next));
+        return Ok(Err(Refusal::PlanCut.at(ended.next)));
     }
-    Ok(ended.totals)
+    Ok(Ok(ended.totals))
+}
+
+// The totals, or the refusal of a net or of the tail.
+fn totals_of_both(ended: Result<Result<Totals, Refused>, Refused>) -> Result<Totals, Refused>
+    ensures { result ≡ both_ended ended }
+{
+    match ended {
+        Ok(totals) => totals,
+        Err(refused) => Err(refused),
+    }
 }
 
 // Obstacles are put into the map of a good plan; after a refusal, whichever, it is zero.
@@ -68,7 +81,7 @@ pub fn replay_plan(
     zero_codes(map, count);
     lay_all_pins(s, tech.grid, nets, from, map);
     let read = read_nets(s, tech, occupants, map, counts, plan, nets, from);
-    let replayed = end_plan(plan, read);
+    let replayed = totals_of_both(end_plan(plan, read));
     finish_map(map, occupants, count, replayed);
     replayed
 }

@@ -1,5 +1,5 @@
 -- `maizespell::line::line_of` meets its contract: too many bytes, a refused job, or a good one.
-use Rattle.reader.proofs.Outcome.{read_at, read_refused, free_bare}
+use Rattle.reader.proofs.Outcome.{read_at, read_refused, zeros_bare}
 use Rattle.lines.proofs.Putting.{written_within}
 use Rattle.maizespell.proofs.Cases.{line_long, line_refused, line_good}
 use Rattle.maizespell.proofs.line.line_of.Goals as goal
@@ -14,7 +14,7 @@ returns-then-bytes-gt65536 c =
     }
 
 pub read_job-requires : goal.read_job-requires
-read_job-requires c = free_bare
+read_job-requires c = zeros_bare
 
 pub vertices-requires : goal.vertices-requires
 vertices-requires c = (read_at _ c.in-Ok.ensures.read).small

@@ -2,7 +2,7 @@
 -- read.
 use native.Mathlib.Omega.{arith}
 use mathlib.Core.Path.{refl}
-use Rattle.reader.proofs.Outcome.{free_bare}
+use Rattle.reader.proofs.Outcome.{zeros_bare}
 use Rattle.replay.proofs.Parts.{passed_same}
 use Rattle.router.proofs.Holding.{refused_room, room_short, room_enough, plan_asked}
 use Rattle.router.proofs.Promises.{room_read}
@@ -11,7 +11,7 @@ use Rattle.router.proofs.Reports.{counts_none}
 use Rattle.router.proofs.replay_call.replay_counted.Goals as goal
 
 pub hold_job-requires : goal.hold_job-requires
-hold_job-requires c = free_bare
+hold_job-requires c = zeros_bare
 
 pub returns-in_err-held : goal.returns-in_err-held
 returns-in_err-held c =

@@ -2,7 +2,7 @@
 use mathlib.Core.Path.{refl, ◌∙◌}
 use native.Mathlib.Omega.{arith}
 use borrow.Author.Rules.{rules}
-use Rattle.reader.proofs.Outcome.{free_bare}
+use Rattle.reader.proofs.Outcome.{zeros_bare}
 use Rattle.replay.proofs.Parts.{passed_same}
 use Rattle.router.proofs.Holding.{refused_room, room_short, room_enough, bytes_below}
 use Rattle.router.proofs.Ends.{routes_refused}
@@ -10,7 +10,7 @@ use Rattle.router.proofs.Routes.{route_asked, route_ended}
 use Rattle.router.proofs.routing_call.route_job.Goals as goal
 
 pub hold_job-requires : goal.hold_job-requires
-hold_job-requires c = free_bare
+hold_job-requires c = zeros_bare
 
 pub returns-in_err-held : goal.returns-in_err-held
 returns-in_err-held c =
